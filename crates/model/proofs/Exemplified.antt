@@ -1,0 +1,128 @@
+-- The small examples, computed.
+use Prim.Native.Nat.{ℕ, _+_, _*_}
+use mathlib.Core.Path.{_≡_, refl, sym, _∙_}
+use mathlib.Core.Bool.{Bool, true, false, _&&_, not}
+use mathlib.Core.List.{List, [], _∷_}
+use mathlib.Core.Logic.{inl}
+use native.Mathlib.Omega.{arith}
+use borrow.Author.Tests.{eqb-true}
+use lib.Dec.{eqb}
+use lib.ListN.{getD}
+use Rattle.model.specs.Answers.{Answers}
+use Rattle.model.specs.Graph.{count}
+use Rattle.model.specs.Scheme.{lowestFrom}
+use Rattle.model.specs.SchemeBytes.{schemeOf}
+use Rattle.model.specs.Network.{fresh, pairPlace, held, world}
+use Rattle.model.specs.Requests.{Request, event, set-policy, find, list, view, writes, those, put, granted}
+use Rattle.model.specs.Log.{RequestAt}
+use Rattle.model.specs.Standard.{standard, standardBytes}
+use Rattle.model.specs.Examples.{small, joins, Admission, AllAdmissions, admissions, four, Judgement, AllJudged, judgements, Effects, freshBytes, Layout, log, LogRead}
+use Rattle.model.proofs.Computing.{some, every, among, isWithin, friendOfAll, allFriends, someList, isClique, onSide, admits, stands, begins, goes, reached, closed, found, sure, finds, allows, first, tests, asks}
+use Rattle.model.proofs.Deciding.{Says, is-true, is-eq, is-lt, conj, negated, every-holds, is-admitted, Inside}
+use Rattle.model.proofs.Places.{pair-before}
+use Rattle.model.proofs.Judging.{judged}
+
+small-inside : Inside small
+small-inside u m e = conj (conj (conj (is-lt u 5) (is-lt m 5)) (negated (is-eq u m))) (is-true (joins u m)) .yes-if e .0 .0 .1
+
+admitted : List Admission → Bool
+admitted [] = true
+admitted ((p, u, v, true) ∷ l) = admits small p u v && admitted l
+admitted ((p, u, v, false) ∷ l) = not (admits small p u v) && admitted l
+
+all-admitted : (l : List Admission) → admitted l ≡ true → AllAdmissions l
+unfolding admitted
+all-admitted [] e = tt
+all-admitted ((p, u, v, true) ∷ l) e =
+    let (a, b) = conj (is-true (admits small p u v)) (is-true (admitted l)) .yes-if e in
+    (is-admitted small small-inside p u v .yes-if a, all-admitted l b)
+all-admitted ((p, u, v, false) ∷ l) e =
+    let (a, b) = conj (negated (is-admitted small small-inside p u v)) (is-true (admitted l)) .yes-if e in
+    (a, all-admitted l b)
+
+pub admissions-hold : AllAdmissions admissions
+unfolding admitted some among isWithin friendOfAll allFriends someList isClique onSide admits count
+admissions-hold = all-admitted admissions refl
+
+-- the computed judgements of a list of requests
+judge : List Judgement → List Judgement
+judge [] = []
+judge ((q, k, written) ∷ l) =
+    let answer = first (tests (standard 4) four q) in
+    (q, answer, granted answer (writes (standard 4) four q) []) ∷ judge l
+
+-- each walk came to its end
+all-sure : List Judgement → Bool
+all-sure [] = true
+all-sure ((q, k, written) ∷ l) = sure (world (standard 4) four) (asks q) && all-sure l
+
+all-judged : (l : List Judgement) → all-sure l ≡ true → AllJudged (judge l)
+unfolding judge all-sure
+all-judged [] e = tt
+all-judged ((q, k, written) ∷ l) e =
+    let (s, rest) = conj (is-true (sure (world (standard 4) four) (asks q))) (is-true (all-sure l)) .yes-if e in
+    (judged (standard 4) four q s, refl, all-judged l rest)
+
+judgements-sure : all-sure judgements ≡ true
+unfolding all-sure some every among isWithin friendOfAll allFriends someList isClique onSide admits stands begins goes reached closed found sure count those
+judgements-sure = refl
+
+judgements-computed : judge judgements ≡ judgements
+unfolding judge some every among isWithin friendOfAll allFriends someList isClique onSide admits stands begins goes reached closed found finds allows first count those
+judgements-computed = refl
+
+pub judgements-hold : AllJudged judgements
+judgements-hold = rw judgements-computed at (all-judged judgements judgements-sure)
+
+pub effects : Effects
+unfolding put
+effects = record {
+  invited-by-lesser = refl;
+  invited-by-greater = refl;
+  other-pair = refl;
+  settings-stay = refl;
+  chosen = refl;
+  other-setting = refl;
+  other-member = refl;
+  pairs-stay = refl;
+}
+
+pairs-fresh : every (λ k. eqb (getD freshBytes k 0) 0) 6 ≡ true
+unfolding every
+pairs-fresh = refl
+
+settings-fresh : every (λ m. every (λ r. eqb (getD freshBytes (6 + (m * 9 + r)) 0) (fresh (schemeOf (standardBytes 4)) .setting m r)) 9) 4 ≡ true
+unfolding every lowestFrom
+settings-fresh = refl
+
+pub layout : Layout
+unfolding held
+layout = record {
+  fresh = record {
+    sized = refl;
+    states = λ i j a b. eqb-true (getD freshBytes (pairPlace i j) 0) 0 (every-holds _ 6 pairs-fresh (pairPlace i j) (pair-before i j 4 a b));
+    settings = λ m r a b. eqb-true (getD freshBytes (6 + (m * 9 + r)) 0) (fresh (schemeOf (standardBytes 4)) .setting m r) (every-holds _ 9 (every-holds _ 4 settings-fresh m a) r b);
+  };
+  changed = refl;
+}
+
+-- a record of another length is no request
+no-request : (q : Request) → RequestAt log 42 q → ⊥
+no-request (event v u a) h = omega (arith, h .0 .2)
+no-request (set-policy u r p) h = omega (arith, h .0 .2)
+no-request (find v u) h = omega (arith, h .0 .2)
+no-request (list v u places) h = omega (arith, h .0 .2)
+no-request (view v u o) h = omega (arith, h .0 .0)
+
+pub log-read : LogRead
+log-read = record {
+  first = ((omega arith, refl, refl), refl, refl, refl);
+  second = ((omega arith, refl, refl), refl, refl, refl);
+  third = ((omega arith, refl, refl), refl, refl);
+  fourth = λ places. ((omega arith, refl, refl), refl, refl);
+  fifth = ((omega arith, refl, refl), refl, refl, refl);
+  cut = inl ((λ h. no-request (h .0) (h .1)), refl);
+  stays = refl;
+  not-ended = λ h. omega arith;
+  ended = omega arith;
+}

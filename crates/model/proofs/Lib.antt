@@ -1,0 +1,14 @@
+pub mod Answering
+pub mod Computing
+pub mod Deciding
+pub mod Walking
+pub mod Judging
+pub mod Places
+pub mod Bits
+pub mod Counting
+pub mod Decoding
+pub mod Held
+pub mod Exemplified
+pub mod StandardRead
+pub mod Cliques
+pub mod Sets

@@ -1,0 +1,47 @@
+-- What each call promises of the bytes that it is lent (document 01, "The calls").
+use Prim.Native.Nat.{ℕ, min, max}
+use mathlib.Core.Path.{_≡_}
+use mathlib.Core.List.{List, [], _∷_, _++_}
+use lib.ListN.{length, drop, set}
+use Rattle.model.specs.Answers.{Requirement, Answers}
+use Rattle.model.specs.Scheme.{Scheme}
+use Rattle.model.specs.SchemeBytes.{schemeOf, schemeNeeds}
+use Rattle.model.specs.Network.{Maps, fresh, pairPlace, settingPlace, size, Laid, held, Valid}
+use Rattle.model.specs.Requests.{Request, event, set-policy, find, list, view, next, needs, writes, Turn, granted}
+
+-- the bytes are a fresh network under scheme b
+abbrev pub Fresh : List ℕ → List ℕ → Type 0
+Fresh b net = Laid (schemeOf b) (fresh (schemeOf b)) net
+
+-- fresh: 5 if the lent network has not the exact length
+abbrev pub freshNeeds : List ℕ → List ℕ → List Requirement
+freshNeeds b net = schemeNeeds b ++ (5, length net ≡ size (schemeOf b)) ∷ []
+
+-- the call fresh on scheme b and the lent bytes: its answer, and the bytes after it
+pub record Freshened (b net : List ℕ) (answer : ℕ) (after : List ℕ) : Type 0 where
+  pub answered : Answers (freshNeeds b net) answer
+  pub made : answer ≡ 0 → Fresh b after
+  pub kept : (answer ≡ 0 → ⊥) → after ≡ net
+
+-- what a granted request does to the bytes
+abbrev pub puts : Scheme → List ℕ → Request → List ℕ
+puts c net (event v u a) = set net (pairPlace (min v u) (max v u)) (next c (held c net) v u a)
+puts c net (set-policy u r p) = set net (settingPlace c u r) p
+puts c net (find v u) = net
+puts c net (list v u places) = net
+puts c net (view v u o) = net
+
+-- every request begins with the scheme check; 5 if length or any byte of the network is off
+abbrev pub callNeeds : List ℕ → List ℕ → Request → List Requirement
+callNeeds b net q = schemeNeeds b ++ (5, Valid (schemeOf b) net) ∷ needs (schemeOf b) (held (schemeOf b) net) q
+
+-- one request on scheme b: its answer, the list written, and the bytes after it
+pub record Called (b net : List ℕ) (t : Turn) (after : List ℕ) : Type 0 where
+  pub answered : Answers (callNeeds b net (t .request)) (t .answer)
+  pub wrote : t .written ≡ granted (t .answer) (writes (schemeOf b) (held (schemeOf b) net) (t .request)) []
+  pub bytes : after ≡ granted (t .answer) (puts (schemeOf b) net (t .request)) net
+
+-- what a list leaves in the lent output: its count, what it wrote at the front, and the places behind as they were
+pub record Filled (t : Turn) (count : ℕ) (out after : List ℕ) : Type 0 where
+  pub counted : count ≡ length (t .written)
+  pub filled : after ≡ t .written ++ drop (length (t .written)) out

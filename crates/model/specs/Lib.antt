@@ -1,0 +1,14 @@
+pub mod Answers
+pub mod Decides
+pub mod Bytes
+pub mod Graph
+pub mod Policies
+pub mod Finding
+pub mod Scheme
+pub mod SchemeBytes
+pub mod Network
+pub mod Requests
+pub mod Calls
+pub mod Log
+pub mod Standard
+pub mod Examples

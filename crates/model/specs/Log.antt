@@ -1,0 +1,30 @@
+-- A log's records (document 01, "Next log record").
+use Prim.Native.Nat.{ℕ, _+_, _≤_, _<_}
+use mathlib.Core.Path.{_≡_}
+use mathlib.Core.List.{List, [], _∷_}
+use mathlib.Core.Logic.{_⊎_}
+use lib.ListN.{length}
+use Rattle.model.specs.Answers.{Requirement}
+use Rattle.model.specs.Bytes.{byte, two, RecordAt}
+use Rattle.model.specs.Requests.{Request, event, set-policy, find, list, view, granted}
+
+module _ (log : List ℕ) where
+  -- no bytes are left at the place, or it is beyond the log's end
+  abbrev pub Ended : ℕ → Type 0
+  Ended k = length log ≤ k
+
+  -- at k stands a record with this request; how many places a list is lent does not stand in the log
+  abbrev pub RequestAt : ℕ → Request → Type 0
+  RequestAt k (event v u a) = RecordAt log k 16 5 × (two log (k + 4) ≡ v) × (two log (k + 6) ≡ u) × (byte log (k + 8) ≡ a)
+  RequestAt k (set-policy u r p) = RecordAt log k 17 4 × (two log (k + 4) ≡ u) × (byte log (k + 6) ≡ r) × (byte log (k + 7) ≡ p)
+  RequestAt k (find v u) = RecordAt log k 18 4 × (two log (k + 4) ≡ v) × (two log (k + 6) ≡ u)
+  RequestAt k (list v u places) = RecordAt log k 19 4 × (two log (k + 4) ≡ v) × (two log (k + 6) ≡ u)
+  RequestAt k (view v u o) = RecordAt log k 20 5 × (two log (k + 4) ≡ v) × (two log (k + 6) ≡ u) × (byte log (k + 8) ≡ o)
+
+  -- the next record, where the log has not ended: 14 if it is cut, of another kind, or of a wrong length
+  abbrev pub recordNeeds : ℕ → List Requirement
+  recordNeeds k = (14, (q : Request) × RequestAt k q) ∷ []
+
+  -- the place afterwards: past the record for a request; after a 14 unchanged
+  abbrev pub placeAfter : ℕ → ℕ → ℕ
+  placeAfter k answer = granted answer (k + 4 + two log k) k
