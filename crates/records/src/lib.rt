@@ -1,0 +1,43 @@
+// Numbers and records in bytes (document 01, "Scheme").
+ghost use mathlib.Core.Path.{_≡_};
+ghost use Prim.Native.Nat.{_+_, _<_, _≤_, _^_};
+ghost use lib.ListN.{length};
+ghost use Rattle.model.specs.Decides.{Decides};
+ghost use Rattle.model.specs.Bytes.{two as twoAt, four as fourAt, RecordAt};
+
+// A byte as an index.
+pub fn wide(b: u8) -> usize
+    ensures { λ r. ⌜ (r ≡ b) × (r < 256) ⌝ }
+{
+    b as usize
+}
+
+// The 2-byte number at a place.
+pub fn two(s: &[u8], at: usize) -> usize
+    requires { ⌜ at + 1 < length (now s) ⌝ }
+    ensures { λ r. ⌜ (r ≡ twoAt (now (s .entry)) at) × (r < 65536) ⌝ }
+{
+    wide(s[at]) + 256 * wide(s[at + 1])
+}
+
+// The 4-byte number at a place.
+pub fn four(s: &[u8], at: usize) -> u32
+    requires { ⌜ at + 3 < length (now s) ⌝ }
+    ensures { λ r. ⌜ r ≡ fourAt (now (s .entry)) at ⌝ }
+{
+    (two(s, at) + 65536 * two(s, at + 2)) as u32
+}
+
+// Whether a whole record of this kind, with a body of this size, stands at a place.
+pub fn record_at(s: &[u8], at: usize, kind: usize, size: usize) -> bool
+    requires { ⌜ (at ≤ 2 ^ 63) × (size ≤ 65536) ⌝ }
+    ensures { λ r. ⌜ Decides r (RecordAt (now (s .entry)) at kind size) ⌝ }
+{
+    if s.len() < at + 4 + size {
+        return false;
+    }
+    if two(s, at) != size {
+        return false;
+    }
+    two(s, at + 2) == kind
+}

@@ -1,0 +1,46 @@
+// The scheme check (document 01, "Scheme", "Scheme check").
+use tables::Counts;
+ghost use mathlib.Core.Path.{_≡_};
+ghost use Rattle.scheme.specs.Checked.{Checked, numberOf};
+
+mod fit;
+mod strangers;
+
+// What the scheme check answers: the counts of an accepted scheme, or the refusal's number.
+pub enum Reading {
+    Accepted(Counts),
+    Refused(u8),
+}
+
+// The scheme check.
+pub fn check(scheme: &[u8]) -> Reading
+    ensures { λ r. ⌜ Checked (now (scheme .entry)) r ⌝ }
+{
+    if !records::record_at(scheme, 0, 1, 6) {
+        return Reading::Refused(1);
+    }
+    let counts = fit::counts(scheme);
+    if !fit::counts_fit(counts) {
+        return Reading::Refused(2);
+    }
+    if !fit::records(scheme, counts) {
+        return Reading::Refused(1);
+    }
+    if !fit::bytes_fit(scheme, counts) {
+        return Reading::Refused(3);
+    }
+    if !strangers::apart(scheme, counts) {
+        return Reading::Refused(4);
+    }
+    Reading::Accepted(counts)
+}
+
+// The number that a call gives back for a scheme that is not accepted.
+pub fn number(reading: Reading) -> u8
+    ensures { λ r. ⌜ r ≡ numberOf reading ⌝ }
+{
+    match reading {
+        Reading::Accepted(_) => 0,
+        Reading::Refused(k) => k,
+    }
+}

@@ -1,0 +1,76 @@
+-- What the bytes of a policy that fits are, by its kind.
+use Prim.Native.Nat.{ℕ, _+_, _*_, _≤_, _<_}
+use mathlib.Core.Path.{_≡_, _∙_}
+use mathlib.Core.List.{List}
+use mathlib.Core.Logic.{inl, inr}
+use native.Mathlib.Nat.{add-zero}
+use native.Mathlib.Omega.{arith}
+use Rattle.model.specs.Bytes.{byte, NoBitFrom}
+use Rattle.model.specs.SchemeBytes.{S, at4, field, PolicyFits, schemeOf}
+use Rattle.model.proofs.Decoding.{policy-at}
+use Rattle.tables.specs.Read.{ReadAs}
+use Rattle.tables.specs.Rules.{RuleOf, RuleAt}
+use Rattle.tables.specs.declared.Counts.{Counts}
+use Rattle.tables.specs.declared.Rule.{Rule}
+
+pub record ByKind (S p kind k left right : ℕ) : Type 0 where
+  pub known : kind ≤ 8
+  pub plain : kind ≤ 2 → (0 ≤ k) × (k ≤ 0) × (left ≡ 0) × (right ≡ 0)
+  pub counted : 3 ≤ kind → kind ≤ 4 → (1 ≤ k) × (k ≤ 255) × (left ≡ 0) × (right ≡ 0)
+  pub clique : kind ≡ 5 → (2 ≤ k) × (k ≤ 5) × (left ≡ 0) × (right ≡ 0)
+  pub state : kind ≡ 6 → (k ≤ 2) × NoBitFrom S (left + 256 * right)
+  pub combined : 7 ≤ kind → (k ≡ 0) × (left < p) × (right < p)
+
+pub by-kind : (S p kind k left right : ℕ) → PolicyFits S p kind k left right → ByKind S p kind k left right
+by-kind S p kind k left right (inl h) = record {
+  known = omega arith;
+  plain = omega arith;
+  counted = omega arith;
+  clique = omega arith;
+  state = λ e. absurd (omega arith);
+  combined = omega arith;
+}
+by-kind S p kind k left right (inr (inl h)) = record {
+  known = omega arith;
+  plain = omega arith;
+  counted = omega arith;
+  clique = omega arith;
+  state = λ e. absurd (omega arith);
+  combined = omega arith;
+}
+by-kind S p kind k left right (inr (inr (inl h))) = record {
+  known = omega arith;
+  plain = omega arith;
+  counted = omega arith;
+  clique = omega arith;
+  state = λ e. absurd (omega arith);
+  combined = omega arith;
+}
+by-kind S p kind k left right (inr (inr (inr (inl h)))) = record {
+  known = omega arith;
+  plain = omega arith;
+  counted = omega arith;
+  clique = omega arith;
+  state = λ e. (h .1, h .2);
+  combined = omega arith;
+}
+by-kind S p kind k left right (inr (inr (inr (inr h)))) = record {
+  known = omega arith;
+  plain = omega arith;
+  counted = omega arith;
+  clique = omega arith;
+  state = λ e. absurd (omega arith);
+  combined = omega arith;
+}
+
+-- the rule of the bytes where policy p stands is policy p
+pub rule-at : (b : List ℕ) (c : Counts) (p at : ℕ) (rule : Rule) → ReadAs b c → p < c .policies → at ≡ at4 b + 4 + p * 4
+    → RuleOf (byte b at) (byte b (at + 1)) (byte b (at + 2)) (byte b (at + 3)) rule → RuleAt b p rule
+rule-at b c p at rule g l e r =
+    let fit = g .bytes .policies p (omega (arith, g .counts .policies)) in
+    let same : RuleOf (field b p 0) (field b p 1) (field b p 2) (field b p 3) rule = rw (add-zero (at4 b + 4 + p * 4), ← e) r in
+    let kind = by-kind (S b) p (field b p 0) (field b p 1) (field b p 2) (field b p 3) fit in
+    record {
+      policy = policy-at b p (omega (arith, g .counts .policies)) fit ∙ same .policy (schemeOf b .policy) (kind .known);
+      fits = same .fits (S b) p fit;
+    }

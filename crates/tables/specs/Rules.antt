@@ -1,0 +1,53 @@
+-- Policies and resources as the code has them.
+use Prim.Native.Nat.{ℕ, _+_, _≤_, _<_}
+use mathlib.Core.Path.{_≡_}
+use mathlib.Core.List.{List}
+use Rattle.model.specs.Policies.{Policy, no-one, everyone, owner-only, within, known, clique, state, both, either}
+use Rattle.model.specs.Scheme.{search, traversal, primitive, item, resourceNumber}
+use Rattle.model.specs.SchemeBytes.{sideOf, policyOf, PolicyFits, schemeOf}
+use Rattle.tables.specs.declared.Rule.{Rule}
+use Rattle.tables.specs.declared.Rule.the-variants.{NoOne, Everyone, Owner, Within, Known, Clique, State, Both, Either}
+use Rattle.tables.specs.declared.Resource.{Resource as Named}
+use Rattle.tables.specs.declared.Resource.the-variants.{Search, Traversal, Primitive, Item, Outside}
+
+-- the policy that a rule stands for, its operands looked up by their numbers
+abbrev pub policyOfRule : (ℕ → Policy) → Rule → Policy
+policyOfRule lower NoOne = no-one
+policyOfRule lower Everyone = everyone
+policyOfRule lower Owner = owner-only
+policyOfRule lower (Within k) = within k
+policyOfRule lower (Known k) = known k
+policyOfRule lower (Clique k) = clique k
+policyOfRule lower (State set k) = state set (sideOf k)
+policyOfRule lower (Both left right) = both (lower left) (lower right)
+policyOfRule lower (Either left right) = either (lower left) (lower right)
+
+-- what a rule's fields are, where it is policy p
+abbrev pub RuleFits : ℕ → Rule → Type 0
+RuleFits p NoOne = Unit {0}
+RuleFits p Everyone = Unit {0}
+RuleFits p Owner = Unit {0}
+RuleFits p (Within k) = 1 ≤ k
+RuleFits p (Known k) = 1 ≤ k
+RuleFits p (Clique k) = (2 ≤ k) × (k ≤ 5)
+RuleFits p (State set k) = k ≤ 2
+RuleFits p (Both left right) = (left < p) × (right < p)
+RuleFits p (Either left right) = (left < p) × (right < p)
+
+-- the rule is that of the four bytes of a policy that fits
+pub record RuleOf (kind k left right : ℕ) (rule : Rule) : Type 0 where
+  pub policy : (lower : ℕ → Policy) → kind ≤ 8 → policyOf lower kind k left right ≡ policyOfRule lower rule
+  pub fits : (S p : ℕ) → PolicyFits S p kind k left right → RuleFits p rule
+
+-- the rule is policy p of the scheme that the bytes hold
+pub record RuleAt (b : List ℕ) (p : ℕ) (rule : Rule) : Type 0 where
+  pub policy : schemeOf b .policy p ≡ policyOfRule (schemeOf b .policy) rule
+  pub fits : RuleFits p rule
+
+-- resource number r is that, where there are A primitives and I items
+abbrev pub ResourceOf : ℕ → ℕ → ℕ → Named → Type 0
+ResourceOf A I r Search = r ≡ resourceNumber A search
+ResourceOf A I r Traversal = r ≡ resourceNumber A traversal
+ResourceOf A I r (Primitive a) = (a < A) × (r ≡ resourceNumber A (primitive a))
+ResourceOf A I r (Item o) = (o < I) × (r ≡ resourceNumber A (item o))
+ResourceOf A I r Outside = 2 + A + I ≤ r
