@@ -1,0 +1,4 @@
+pub mod Filling
+pub mod Reading
+pub mod RowBits
+pub mod Validity

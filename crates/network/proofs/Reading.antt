@@ -1,0 +1,87 @@
+-- What is known of a network that passes 5: the counts, and where each byte stands.
+use Prim.Native.Nat.{ℕ, _+_, _*_, _<_, _≤_, min, max}
+use mathlib.Core.Path.{_≡_, sym, ap, _∙_}
+use mathlib.Core.Bool.{false, and-false}
+use mathlib.Core.List.{List}
+use native.Mathlib.Omega.{arith}
+use borrow.Author.Tests.{eq-eqb, ne-eqb, lt-ltb, le-ltb}
+use lib.ListN.{length, getD}
+use Rattle.model.specs.Bytes.{bit}
+use Rattle.model.specs.Network.{Maps, pairs, pairPlace, settingPlace, held, stateOf}
+use Rattle.model.specs.SchemeBytes.{n, A, I, P, schemeOf}
+use Rattle.model.proofs.Bits.{bit-below}
+use Rattle.model.proofs.Held.{held-state, held-setting, other-state}
+use Rattle.model.proofs.Places.{pairs-mono, pair-before, setting-before}
+use Rattle.tables.specs.Read.{InRange, ReadAs, MarksOf}
+use Rattle.tables.specs.declared.Counts.{Counts}
+use Rattle.scheme.proofs.Accepting.{accepted-read}
+use Rattle.network.specs.Ready.{Ready, graphOf}
+
+pub pairs-small : (n : ℕ) → n ≤ 256 → pairs n ≤ 32640
+pairs-small n h = pairs-mono n 256 h
+
+-- the state of two members, the lesser first
+pub pair-state : (s : Maps) (i j : ℕ) → i < j → (stateOf s i j ≡ s .pair i j) × (stateOf s j i ≡ s .pair i j)
+pair-state s i j h =
+    let a : min i j ≡ i = omega arith in
+    let b : max i j ≡ j = omega arith in
+    let d : min j i ≡ i = omega arith in
+    let e : max j i ≡ j = omega arith in
+    (other-state s i j (λ z. omega arith) ∙ rw (a, b), other-state s j i (λ z. omega arith) ∙ rw (d, e))
+
+-- nobody is its own friend
+pub friends-own : (b net : List ℕ) (u v : ℕ) → u ≡ v → graphOf b net .friends u v ≡ false
+friends-own b net u v e = simp (eq-eqb u v e, and-false)
+
+pub friends-outside : (b net : List ℕ) (u m : ℕ) → n b ≤ m → graphOf b net .friends u m ≡ false
+friends-outside b net u m l = simp (le-ltb m (n b) l, and-false)
+
+module _ {b : List ℕ} {c : Counts} {net : List ℕ} (h : Ready b c net) where
+  pub ready-read : ReadAs b c
+  ready-read = accepted-read (h .accepted) (h .counts)
+
+  pub ready-range : InRange c
+  ready-range = ready-read .range
+
+  -- the byte of the pair i < j
+  pub pair-inside : (i j : ℕ) → i < j → j < c .members → pairPlace i j < length net
+  pair-inside i j a d =
+      let z : pairPlace i j < pairs (n b) = pair-before i j (n b) a (omega arith) in
+      omega (arith, h .valid .sized)
+
+  pub pair-held : (i j : ℕ) → i < j → j < c .members
+      → (getD net (pairPlace i j) 0 ≡ stateOf (held (schemeOf b) net) i j)
+      × (getD net (pairPlace i j) 0 ≡ stateOf (held (schemeOf b) net) j i)
+      × (getD net (pairPlace i j) 0 < c .states)
+  pair-held i j a d =
+      let m : j < n b = omega arith in
+      let e = held-state (schemeOf b) net i j a m in
+      let (x, y) = pair-state (held (schemeOf b) net) i j a in
+      (sym (x ∙ e), sym (y ∙ e), omega (arith, e, h .valid .fits .states i j a m))
+
+  -- the byte of member m's setting for resource r
+  pub setting-at : (m r : ℕ) → pairs (c .members) + (m * (2 + c .primitives + c .items) + r) ≡ settingPlace (schemeOf b) m r
+  setting-at m r = rw (h .counts .members, h .counts .primitives, h .counts .items)
+
+  pub setting-inside : (m r : ℕ) → m < c .members → r < 2 + c .primitives + c .items → settingPlace (schemeOf b) m r < length net
+  setting-inside m r a d = omega (arith, h .valid .sized, setting-before (schemeOf b) m r (omega arith) (omega arith))
+
+  pub setting-held : (m r : ℕ) → m < c .members → r < 2 + c .primitives + c .items
+      → (getD net (settingPlace (schemeOf b) m r) 0 ≡ held (schemeOf b) net .setting m r) × (getD net (settingPlace (schemeOf b) m r) 0 < c .policies)
+  setting-held m r a d =
+      let k : m < n b = omega arith in
+      let l : r < 2 + A b + I b = omega arith in
+      let e = held-setting (schemeOf b) net m r k l in
+      let p : held (schemeOf b) net .setting m r < P b =
+      bit-below (schemeOf b .mask r) (P b) (held (schemeOf b) net .setting m r) (ready-read .bytes .masks r l .1) (h .valid .fits .settings m r k l) in
+      (sym e, omega (arith, e))
+
+  -- two members are friends where their state is marked
+  pub friends-marked : (set u v q : ℕ) → MarksOf b (c .states) set → u < c .members → v < c .members → (u ≡ v → ⊥)
+      → q ≡ stateOf (held (schemeOf b) net) u v
+      → q < c .states
+      → bit set q ≡ graphOf b net .friends u v
+  friends-marked set u v q marks k l d e s =
+      let x : u < n b = omega arith in
+      let y : v < n b = omega arith in
+      marks .marked q s ∙ ap (schemeOf b .friendly) e ∙ simp (lt-ltb u (n b) x, lt-ltb v (n b) y, ne-eqb u v d)

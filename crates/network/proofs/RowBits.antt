@@ -1,0 +1,124 @@
+-- Friend rows, word by word.
+use Prim.Native.Nat.{ℕ, zero, suc, _+_, _*_, _/_, _%_, _^_, _≤_, _<_, min}
+use mathlib.Core.Path.{_≡_, refl, sym, ap, ap₂, _∙_}
+use mathlib.Core.Bool.{Bool, true, false, _&&_}
+use mathlib.Core.List.{List, [], _∷_}
+use native.Mathlib.Nat.{zero-add, mod-lt, mod-one, mod-eq-of-lt, add-comm, not-suc-le-zero, le-of-suc-le-suc, div-add-mod'}
+use native.Mathlib.Numerals.{one-add}
+use native.Mathlib.Omega.{arith}
+use borrow.Author.Count.{below-more}
+use lib.Arith.{digits-div, digits-mod}
+use lib.Bits.{bitAnd, bitOr, and-lt}
+use lib.Count.{ones, ones-cat}
+use lib.Dec.{eqb}
+use lib.ListN.{getD}
+use lib.Pow.{pow-pos, mod-pow-add}
+use Rattle.model.specs.Bytes.{digit, bit, NoBitFrom}
+use Rattle.model.specs.Graph.{Graph, one, count, shared}
+use Rattle.model.proofs.Bits.{digit-lt, digit-and, digit-of-zero, bit-no, set-same, set-other, shl-one}
+use Rattle.model.proofs.Counting.{count-ext, count-split, count-above}
+use Rattle.network.specs.Rows.{rowBit, FriendRow, CommonBits}
+
+-- ---- the common bits of two words
+
+ones-small : (d : ℕ) → d < 2 → ones d ≡ one (eqb d 1)
+unfolding ones
+ones-small zero h = refl
+ones-small (suc zero) h = refl
+ones-small (suc (suc d)) h = absurd (not-suc-le-zero (le-of-suc-le-suc (le-of-suc-le-suc h)))
+
+-- the ones of x's n low digits are counted digit by digit
+ones-count : (x n : ℕ) → ones (x % 2 ^ n) ≡ count (bit x) n
+unfolding count ones
+ones-count x zero = ap ones (mod-one x)
+ones-count x (suc n) =
+    ap (λ (k : ℕ). ones (x % 2 ^ k)) (sym (one-add n))
+    ∙ ap ones (mod-pow-add x 1 n)
+    ∙ ones-cat n (digit x n) (x % 2 ^ n) (mod-lt x (pow-pos n))
+    ∙ ap₂ (λ (a b : ℕ). a + b) (ones-small (digit x n) (digit-lt x n)) (ones-count x n)
+    ∙ add-comm (one (bit x n)) (count (bit x) n)
+
+-- 0 or 1, both 1
+both-min : (d e : ℕ) → d < 2 → e < 2 → eqb (min d e) 1 ≡ (eqb d 1 && eqb e 1)
+both-min zero zero h l = refl
+both-min zero (suc zero) h l = refl
+both-min (suc zero) zero h l = refl
+both-min (suc zero) (suc zero) h l = refl
+both-min zero (suc (suc e)) h l = absurd (not-suc-le-zero (le-of-suc-le-suc (le-of-suc-le-suc l)))
+both-min (suc zero) (suc (suc e)) h l = absurd (not-suc-le-zero (le-of-suc-le-suc (le-of-suc-le-suc l)))
+both-min (suc (suc d)) e h l = absurd (not-suc-le-zero (le-of-suc-le-suc (le-of-suc-le-suc h)))
+
+-- `count_ones(x & y)` of two words
+pub ones-common : (x y : ℕ) → x < 2 ^ 64 → y < 2 ^ 64 → ones (bitAnd x y) ≡ count (λ (m : ℕ). bit x m && bit y m) 64
+ones-common x y hx hy =
+    sym (ap ones (mod-eq-of-lt (and-lt 64 x y hx hy)))
+    ∙ ones-count (bitAnd x y) 64
+    ∙ count-ext (bit (bitAnd x y)) (λ (m : ℕ). bit x m && bit y m) 64
+    (λ m h. ap (λ (d : ℕ). eqb d 1) (digit-and x y m) ∙ both-min (digit x m) (digit y m) (digit-lt x m) (digit-lt y m))
+
+-- ---- a row, word by word
+
+-- bit m of the word is that of member from + m
+abbrev Part : Graph → ℕ → ℕ → ℕ → Type 0
+Part g u w from = (m : ℕ) → m < 64 → bit w m ≡ g .friends u (from + m)
+
+pub friend-row : (g : Graph) (u w₀ w₁ w₂ w₃ : ℕ)
+    → g .members ≤ 256
+    → ((m : ℕ) → g .members ≤ m → g .friends u m ≡ false)
+    → Part g u w₀ 0
+    → Part g u w₁ 64
+    → Part g u w₂ 128
+    → Part g u w₃ 192
+    → FriendRow g u (w₀ ∷ w₁ ∷ w₂ ∷ w₃ ∷ [])
+friend-row g u w₀ w₁ w₂ w₃ h none p₀ p₁ p₂ p₃ = record { bits = λ m l. at m; none-above = λ m l. at m ∙ none m l }
+  where
+    row : List ℕ
+    row = w₀ ∷ w₁ ∷ w₂ ∷ w₃ ∷ []
+
+    part : (q j : ℕ) → j < 64 → bit (getD row q 0) j ≡ g .friends u (q * 64 + j)
+    part zero j l = p₀ j l
+    part (suc zero) j l = p₁ j l
+    part (suc (suc zero)) j l = p₂ j l
+    part (suc (suc (suc zero))) j l = p₃ j l
+    part (suc (suc (suc (suc q)))) j l = bit-no 0 j (digit-of-zero j) ∙ sym (none (suc (suc (suc (suc q))) * 64 + j) (omega arith))
+
+    at : (m : ℕ) → rowBit row m ≡ g .friends u m
+    at m = part (m / 64) (m % 64) (mod-lt m (omega arith)) ∙ ap (g .friends u) (div-add-mod' m 64)
+
+-- ---- the common bits of two rows
+
+module _ (a b : List ℕ) where
+  abbrev both : ℕ → Bool
+  both m = rowBit a m && rowBit b m
+
+  -- r is how many bits the words w have in common
+  abbrev InWord : ℕ → ℕ → Type 0
+  InWord w r = r ≡ count (λ (m : ℕ). bit (getD a w 0) m && bit (getD b w 0) m) 64
+
+  -- the count so far, and that of word w
+  turn : (w n r : ℕ) → n ≡ count both (w * 64) → InWord w r → n + r ≡ count both ((w + 1) * 64)
+  turn w n r e q =
+      ap₂ (λ (x y : ℕ). x + y) e
+      (q
+      ∙ sym
+      (count-ext (λ (m : ℕ). both (w * 64 + m)) (λ (m : ℕ). bit (getD a w 0) m && bit (getD b w 0) m) 64
+      (λ m h. ap₂ (λ (x y : ℕ). bit (getD a x 0) y && bit (getD b x 0) y) (digits-div w h) (digits-mod w h))))
+      ∙ sym (count-split both (w * 64) 64)
+      ∙ ap (count both) (omega arith)
+
+  -- shared friends are common bits
+  shares : (g : Graph) (u v : ℕ) → g .members ≤ 256 → FriendRow g u a → FriendRow g v b → count both 256 ≡ shared g u v
+  shares g u v h p q =
+      count-above both (g .members) 256 h (λ m l. ap (λ (x : Bool). x && rowBit b m) (p .none-above m l))
+      ∙ count-ext both (λ (m : ℕ). g .friends u m && g .friends v m) (g .members)
+      (λ m l. ap₂ (λ (x y : Bool). x && y) (p .bits m (omega arith)) (q .bits m (omega arith)))
+
+  first : (r : ℕ) → InWord 0 r → r ≡ count both 64
+  unfolding count
+  first r e = sym (zero-add r) ∙ turn 0 0 r refl e
+
+  pub common-bits : (r₀ r₁ r₂ r₃ : ℕ) → InWord 0 r₀ → InWord 1 r₁ → InWord 2 r₂ → InWord 3 r₃ → CommonBits a b (r₀ + r₁ + r₂ + r₃)
+  common-bits r₀ r₁ r₂ r₃ e₀ e₁ e₂ e₃ =
+      let e : r₀ + r₁ + r₂ + r₃ ≡ count both 256 =
+      turn 3 (r₀ + r₁ + r₂) r₃ (turn 2 (r₀ + r₁) r₂ (turn 1 r₀ r₁ (first r₀ e₀) e₁) e₂) e₃ in
+      record { counted = e; shares = λ g u v h p q. e ∙ shares g u v h p q }

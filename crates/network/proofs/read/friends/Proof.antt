@@ -1,0 +1,31 @@
+use mathlib.Core.Path.{sym, ap, _∙_}
+use Rattle.model.specs.Bytes.{bit}
+use Rattle.network.proofs.Reading.{friends-marked, friends-own}
+use borrow.Author.Needs.{needs}
+use Rattle.network.proofs.read.friends.Statement.{statement}
+use Rattle.network.proofs.read.friends.Tie as tie
+
+returns : tie.Need-returns
+returns c =
+    let s = c .before .before .before in
+    sym (friends-own (s .args .scheme .now) (s .args .network .now) (s .args .u) (s .args .v) (c .if1 .taken))
+
+state-requires : tie.Need-state-requires
+state-requires c κs = search needs
+
+wide-requires : tie.Need-wide-requires
+wide-requires c κs = search needs
+
+offered-requires : tie.Need-offered-requires
+offered-requires c κs = search needs
+
+returns-2 : tie.Need-returns-2
+returns-2 c =
+    let s = c .before .before .before .before .before .before in
+    let q = c .before .before .state in
+    c .offered .ensures
+    ∙ ap (bit (s .args .marks)) (c .before .wide .ensures .0)
+    ∙ friends-marked (s .pre .0) (s .args .marks) (s .args .u) (s .args .v) (q .result) (s .pre .1) (s .pre .2) (s .pre .3) (c .before .before .before .if1 .left) (q .ensures .0) (q .ensures .1)
+
+pub friends-spec : {M : Type 1} → statement M
+friends-spec = tie.close (tie.spec returns state-requires wide-requires offered-requires returns-2)

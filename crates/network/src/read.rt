@@ -1,0 +1,53 @@
+// Reads of a network that passes 5.
+use tables::Counts;
+ghost use mathlib.Core.Path.{_≡_};
+ghost use Prim.Native.Nat.{_+_, _<_, _≤_};
+ghost use Rattle.model.specs.Network.{held, stateOf, pairs as pairCount};
+ghost use Rattle.model.specs.SchemeBytes.{schemeOf};
+ghost use Rattle.tables.specs.Read.{MarksOf};
+ghost use Rattle.network.specs.Ready.{Ready, graphOf};
+
+// How many pairs members have.
+pub fn pairs(members: usize) -> usize
+    requires { ⌜ members ≤ 256 ⌝ }
+    ensures { λ r. ⌜ (r ≡ pairCount members) × (r ≤ 32640) ⌝ }
+{
+    if members == 0 {
+        return 0;
+    }
+    members * (members - 1) / 2
+}
+
+// The state of two members; 0 where they are one.
+pub fn state(scheme: &[u8], c: Counts, network: &[u8], u: usize, v: usize) -> u8
+    requires { ⌜ Ready (now scheme) c (now network) × (u < c .members) × (v < c .members) ⌝ }
+    ensures { λ r. ⌜ (r ≡ stateOf (held (schemeOf (now (scheme .entry))) (now (network .entry))) u v) × (r < c .states) ⌝ }
+{
+    if u < v {
+        return network[pairs(v) + u];
+    }
+    if v < u {
+        return network[pairs(u) + v];
+    }
+    0
+}
+
+// The policy number that member m has chosen for resource r.
+pub fn setting(scheme: &[u8], c: Counts, network: &[u8], m: usize, r: usize) -> u8
+    requires { ⌜ Ready (now scheme) c (now network) × (m < c .members) × (r < 2 + c .primitives + c .items) ⌝ }
+    ensures { λ x. ⌜ (x ≡ held (schemeOf (now (scheme .entry))) (now (network .entry)) .setting m r) × (x < c .policies) ⌝ }
+{
+    network[pairs(c.members) + (m * tables::resources(c) + r)]
+}
+
+// Whether two members are friends; marks are the scheme's.
+pub fn friends(scheme: &[u8], c: Counts, marks: u16, network: &[u8], u: usize, v: usize) -> bool
+    requires { ⌜ Ready (now scheme) c (now network) × MarksOf (now scheme) (c .states) marks × (u < c .members) × (v < c .members) ⌝ }
+    ensures { λ r. ⌜ r ≡ graphOf (now (scheme .entry)) (now (network .entry)) .friends u v ⌝ }
+{
+    if u == v {
+        return false;
+    }
+    let q = state(scheme, c, network, u, v);
+    tables::offered(marks as u32, records::wide(q))
+}
