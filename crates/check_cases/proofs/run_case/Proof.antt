@@ -1,0 +1,98 @@
+-- `check_cases::run_case` is safe: each part is within its buffer.
+use Prim.Native.Nat.{ℕ, _≤_}
+use mathlib.Core.Path.{_≡_, sym, subst}
+use lib.Seq.{length-take-le}
+use Rattle.check_cases.specs.Parts.{Within}
+use Rattle.check_cases.specs.declared.Part.{Part}
+use Rattle.check_cases.specs.declared.Part.the-variants.{Bytes}
+use borrow.Author.Needs.{needs}
+use Rattle.check_cases.proofs.run_case.Statement.{statement}
+use Rattle.check_cases.proofs.run_case.Tie as tie
+
+bound : {r : Part} {n size : ℕ} → r ≡ Bytes n → Within r size → n ≤ size
+bound {size = size} e h = subst (λ (r : Part). Within r size) e h
+
+read-part-requires : tie.Need-read-part-requires
+read-part-requires c κs = search needs
+
+enum-known-s : tie.Need-enum-known-s
+enum-known-s c = search needs
+
+enum-told : tie.Need-enum-told
+enum-told c = search needs
+
+same-length : tie.Need-same-length
+same-length c = search needs
+
+returns : tie.Need-returns
+returns c = search needs
+
+read-part-requires-2 : tie.Need-read-part-requires-2
+read-part-requires-2 c κs = search needs
+
+enum-known-n : tie.Need-enum-known-n
+enum-known-n c = search needs
+
+enum-told-2 : tie.Need-enum-told-2
+enum-told-2 c = search needs
+
+same-length-2 : tie.Need-same-length-2
+same-length-2 c = search needs
+
+same-length-3 : tie.Need-same-length-3
+same-length-3 c = search needs
+
+returns-2 : tie.Need-returns-2
+returns-2 c = search needs
+
+slice-reshare-prefix-print-case : tie.Need-slice-reshare-prefix-print-case
+slice-reshare-prefix-print-case c =
+    bound (c .before .before .before .before .before .before .before .before .s .given .1)
+    (c .before .before .before .before .before .before .before .before .before .before .before .before .read-part .ensures)
+
+slice-aggregate-print-case : tie.Need-slice-aggregate-print-case
+slice-aggregate-print-case c =
+    sym (length-take-le _ _ (slice-reshare-prefix-print-case (c .before)))
+
+slice-relend-prefix-print-case : tie.Need-slice-relend-prefix-print-case
+slice-relend-prefix-print-case c =
+    bound (c .before .before .n .given .1) (c .before .before .before .before .before .before .read-part2 .ensures)
+
+slice-aggregate-print-case-2 : tie.Need-slice-aggregate-print-case-2
+slice-aggregate-print-case-2 c = sym (length-take-le _ _ (slice-relend-prefix-print-case (c .before)))
+
+print-case-requires : tie.Need-print-case-requires
+print-case-requires c κs = search needs
+
+same-length-4 : tie.Need-same-length-4
+same-length-4 c = search needs
+
+same-length-5 : tie.Need-same-length-5
+same-length-5 c = search needs
+
+returns-3 : tie.Need-returns-3
+returns-3 c = search needs
+
+pub run-case-spec : {M : Type 1} → statement M
+run-case-spec =
+    tie.close
+    (tie.spec
+    read-part-requires
+    enum-known-s
+    enum-told
+    same-length
+    returns
+    read-part-requires-2
+    enum-known-n
+    enum-told-2
+    same-length-2
+    same-length-3
+    returns-2
+    slice-reshare-prefix-print-case
+    slice-aggregate-print-case
+    slice-relend-prefix-print-case
+    slice-aggregate-print-case-2
+    print-case-requires
+    same-length-4
+    same-length-5
+    returns-3)
