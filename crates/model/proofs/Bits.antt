@@ -1,6 +1,6 @@
 -- The laws of `digit x p = x / 2 ^ p % 2` over the machine's operations, and of the lowest bit.
 use mathlib.Core.Path.{_≡_, refl, sym, ap, _∙_, subst}
-use mathlib.Core.Bool.{Bool, true, false, cond}
+use mathlib.Core.Bool.{Bool, true, false, cond, _&&_, and-false}
 use Prim.Native.Nat.{ℕ, zero, suc, _+_, _-_, _*_, _/_, _%_, _^_, _≤_, _<_, min, max}
 use native.Mathlib.Nat.{zero-div, mul-assoc, le-dest, div-one, div-div-eq-div-mul, pow-succ', pow-zero, two-pow-succ, div-eq-of-lt, lt-of-lt-of-le, mod-lt, zero-lt-suc, not-suc-le-zero, le-of-suc-le-suc, div-lt-iff-lt-mul, div-le-self, pow-suc}
 use native.Mathlib.Decide.{ℕ-discrete, decLt}
@@ -61,6 +61,18 @@ yes-bit x p e = eqb-true (digit x p) 1 e
 
 pub no-bit : (x p : ℕ) → bit x p ≡ false → digit x p ≡ 0
 no-bit x p e = let h : digit x p ≡ 1 → ⊥ = eqb-false (digit x p) 1 e in omega (arith, digit-lt x p)
+
+-- `a & b`, bit by bit
+pub bit-and : (x y p : ℕ) → bit (bitAnd x y) p ≡ (bit x p && bit y p)
+bit-and x y p = go (ℕ-discrete (digit x p) 1) (ℕ-discrete (digit y p) 1)
+  where
+    d : digit (bitAnd x y) p ≡ min (digit x p) (digit y p)
+    d = digit-and x y p
+
+    go : Dec (digit x p ≡ 1) → Dec (digit y p ≡ 1) → bit (bitAnd x y) p ≡ (bit x p && bit y p)
+    go (yes a) (yes b) = bit-yes (bitAnd x y) p (omega (arith, d)) ∙ sym (rw (bit-yes x p a, bit-yes y p b))
+    go (yes a) (no b) = bit-no (bitAnd x y) p (omega (arith, d, digit-lt y p)) ∙ sym (rw (bit-no y p (omega (arith, digit-lt y p))) (and-false (bit x p)))
+    go (no a) b = bit-no (bitAnd x y) p (omega (arith, d, digit-lt x p)) ∙ sym (rw (bit-no x p (omega (arith, digit-lt x p))))
 
 -- ---- one digit set: `w | (1 << m)`
 
@@ -129,6 +141,16 @@ zero-shr n p x b h = go (ℕ-discrete (x / 2 ^ p) 0)
     go : Dec (x / 2 ^ p ≡ 0) → x / 2 ^ p ≡ 0
     go (yes e) = e
     go (no e) = absurd (found (some-bit n (x / 2 ^ p) (omega arith) (omega (arith, div-le-self x (2 ^ p)))))
+
+below-pow : (x : ℕ) → x < 2 ^ x
+below-pow zero = omega (arith, pow-zero 2)
+below-pow (suc x) = omega (arith, two-pow-succ x, below-pow x)
+
+pub no-bit-below : (p x : ℕ) → NoBitFrom p x → x < 2 ^ p
+no-bit-below p x h =
+    let e : x / 2 ^ p ≡ 0 = zero-shr x p x (below-pow x) h in
+    let l : x < 1 * 2 ^ p = div-lt-iff-lt-mul (pow-pos p) .0 (omega arith) in
+    omega arith
 
 -- a bit is below where there are none
 pub bit-below : (x p q : ℕ) → NoBitFrom p x → bit x q ≡ true → q < p

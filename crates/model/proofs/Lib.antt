@@ -12,3 +12,4 @@ pub mod Exemplified
 pub mod StandardRead
 pub mod Cliques
 pub mod Sets
+pub mod Symmetry

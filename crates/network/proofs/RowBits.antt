@@ -15,7 +15,7 @@ use lib.ListN.{getD}
 use lib.Pow.{pow-pos, mod-pow-add}
 use Rattle.model.specs.Bytes.{digit, bit, NoBitFrom}
 use Rattle.model.specs.Graph.{Graph, one, count, shared}
-use Rattle.model.proofs.Bits.{digit-lt, digit-and, digit-of-zero, bit-no, set-same, set-other, shl-one}
+use Rattle.model.proofs.Bits.{digit-lt, digit-of-zero, bit-no, bit-and}
 use Rattle.model.proofs.Counting.{count-ext, count-split, count-above}
 use Rattle.network.specs.Rows.{rowBit, FriendRow, CommonBits}
 
@@ -38,23 +38,13 @@ ones-count x (suc n) =
     ∙ ap₂ (λ (a b : ℕ). a + b) (ones-small (digit x n) (digit-lt x n)) (ones-count x n)
     ∙ add-comm (one (bit x n)) (count (bit x) n)
 
--- 0 or 1, both 1
-both-min : (d e : ℕ) → d < 2 → e < 2 → eqb (min d e) 1 ≡ (eqb d 1 && eqb e 1)
-both-min zero zero h l = refl
-both-min zero (suc zero) h l = refl
-both-min (suc zero) zero h l = refl
-both-min (suc zero) (suc zero) h l = refl
-both-min zero (suc (suc e)) h l = absurd (not-suc-le-zero (le-of-suc-le-suc (le-of-suc-le-suc l)))
-both-min (suc zero) (suc (suc e)) h l = absurd (not-suc-le-zero (le-of-suc-le-suc (le-of-suc-le-suc l)))
-both-min (suc (suc d)) e h l = absurd (not-suc-le-zero (le-of-suc-le-suc (le-of-suc-le-suc h)))
-
 -- `count_ones(x & y)` of two words
 pub ones-common : (x y : ℕ) → x < 2 ^ 64 → y < 2 ^ 64 → ones (bitAnd x y) ≡ count (λ (m : ℕ). bit x m && bit y m) 64
 ones-common x y hx hy =
     sym (ap ones (mod-eq-of-lt (and-lt 64 x y hx hy)))
     ∙ ones-count (bitAnd x y) 64
     ∙ count-ext (bit (bitAnd x y)) (λ (m : ℕ). bit x m && bit y m) 64
-    (λ m h. ap (λ (d : ℕ). eqb d 1) (digit-and x y m) ∙ both-min (digit x m) (digit y m) (digit-lt x m) (digit-lt y m))
+    (λ m h. bit-and x y m)
 
 -- ---- a row, word by word
 

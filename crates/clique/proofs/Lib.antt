@@ -1,0 +1,3 @@
+pub mod Holding
+pub mod Networks
+pub mod Words

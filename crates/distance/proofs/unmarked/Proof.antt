@@ -1,0 +1,51 @@
+use Prim.Native.Nat.{ℕ, _-_, _<_, _≤_}
+use native.Mathlib.Omega.{arith}
+use borrow.Author.Count.{below-none, below-more}
+use lib.ListN.{getD}
+use Rattle.distance.proofs.unmarked.Statement.{statement}
+use Rattle.distance.proofs.unmarked.Tie as tie
+
+abbrev Inv-loop : tie.InvT-loop
+Inv-loop members distances k₀ k = (k ≤ members) × ((j : ℕ) → j < k → 0 < getD distances j 0)
+
+abbrev μ-loop : tie.MeasureT-loop
+μ-loop members distances k₀ k = members - k
+
+loop-holds : tie.Need-loop-holds Inv-loop μ-loop
+loop-holds c = (omega arith, below-none _)
+
+mul-if1 : tie.Need-mul-if1 Inv-loop μ-loop
+mul-if1 c = omega arith
+
+shared-slice-read-if1 : tie.Need-shared-slice-read-if1 Inv-loop μ-loop
+shared-slice-read-if1 c = omega arith
+
+returns : tie.Need-returns Inv-loop μ-loop
+returns c = record { inside = omega arith; below = c .before .before .before .loop .inv .1 }
+
+add-k : tie.Need-add-k Inv-loop μ-loop
+add-k c = omega arith
+
+loop-less : tie.Need-loop-less Inv-loop μ-loop
+loop-less c = omega arith
+
+loop-again : tie.Need-loop-again Inv-loop μ-loop
+loop-again c = (omega arith, below-more _ _ (c .before .before .before .loop .inv .1) (omega arith))
+
+returns-2 : tie.Need-returns-2 Inv-loop μ-loop
+returns-2 c = record { inside = omega arith; below = c .before .loop .inv .1 }
+
+pub unmarked-spec : {M : Type 1} → statement M
+unmarked-spec =
+    tie.close
+    (tie.spec
+    Inv-loop
+    μ-loop
+    loop-holds
+    mul-if1
+    shared-slice-read-if1
+    returns
+    add-k
+    loop-less
+    loop-again
+    returns-2)

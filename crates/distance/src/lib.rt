@@ -1,0 +1,125 @@
+// Distances over friendships (document 01, "Policies", kind 3).
+use tables::Counts;
+ghost use mathlib.Core.Path.{_≡_};
+ghost use Prim.Native.Nat.{ℕ, _+_, _<_, _≤_};
+ghost use lib.ListN.{length};
+ghost use Rattle.model.specs.Decides.{Decides};
+ghost use Rattle.model.specs.Graph.{Graph, Within};
+ghost use Rattle.tables.specs.Read.{MarksOf};
+ghost use Rattle.network.specs.Ready.{Ready, graphOf};
+ghost use Rattle.distance.specs.Distances.{Distances};
+ghost use Rattle.distance.specs.Marks.{Cleared, Marked, Spread, Layered};
+
+// Takes all marks away.
+fn clear(distances: &mut [u16])
+    requires { ⌜ length (now distances) ≡ 256 ⌝ }
+    ensures { λ r. ⌜ Cleared (now (distances .exit)) ⌝ }
+{
+    let mut k: usize = 0;
+    while k < 256 {
+        distances[k] = 0;
+        k += 1;
+    }
+}
+
+// The first member without a mark, or the number of members.
+fn unmarked(members: usize, distances: &[u16]) -> usize
+    requires { ⌜ members ≤ length (now distances) ⌝ }
+    ensures { λ r. ⌜ Marked members (now (distances .entry)) r ⌝ }
+{
+    let mut k: usize = 0;
+    while k < members {
+        if distances[k] == 0 {
+            return k;
+        }
+        k += 1;
+    }
+    k
+}
+
+// Marks the friends of m that have no mark yet, from a member on before whom all have one.
+fn spread(
+    scheme: &[u8],
+    c: Counts,
+    marks: u16,
+    network: &[u8],
+    m: usize,
+    mark: u16,
+    from: usize,
+    distances: &mut [u16],
+)
+    requires { ⌜ Ready (now scheme) c (now network) × MarksOf (now scheme) (c .states) marks × (m < c .members) × (0 < mark) × (length (now distances) ≡ 256) × Marked (c .members) (now distances) from ⌝ }
+    ensures { λ r. ⌜ Spread (graphOf (now (scheme .entry)) (now (network .entry))) (λ j k. j ≡ m) mark (now (distances .entry)) (now (distances .exit)) ⌝ }
+{
+    let mut k: usize = from;
+    while k < c.members {
+        if distances[k] == 0 {
+            if network::read::friends(scheme, c, marks, network, k, m) {
+                distances[k] = mark;
+            }
+        }
+        k += 1;
+    }
+}
+
+// Marks the friends of those with a mark that have none yet; whether there was one with that mark.
+fn layer(
+    scheme: &[u8],
+    c: Counts,
+    marks: u16,
+    network: &[u8],
+    mark: u16,
+    distances: &mut [u16],
+) -> bool
+    requires { ⌜ Ready (now scheme) c (now network) × MarksOf (now scheme) (c .states) marks × (0 < mark) × (mark ≤ 255) × (length (now distances) ≡ 256) ⌝ }
+    ensures { λ r. ⌜ Layered (graphOf (now (scheme .entry)) (now (network .entry))) mark (now (distances .entry)) (c .members) (now (distances .exit)) r ⌝ }
+{
+    let from = unmarked(c.members, distances);
+    let mut some = false;
+    let mut m: usize = 0;
+    while m < c.members {
+        if distances[m] == mark {
+            spread(scheme, c, marks, network, m, mark + 1, from, distances);
+            some = true;
+        }
+        m += 1;
+    }
+    some
+}
+
+// Writes for each member one more than the least number of friendships to v, or 0 where more than the limit are needed.
+pub fn fill(
+    scheme: &[u8],
+    c: Counts,
+    marks: u16,
+    network: &[u8],
+    v: usize,
+    limit: usize,
+    distances: &mut [u16],
+)
+    requires { ⌜ Ready (now scheme) c (now network) × MarksOf (now scheme) (c .states) marks × (v < c .members) × (limit ≤ 255) × (length (now distances) ≡ 256) ⌝ }
+    ensures { λ r. ⌜ (length (now (distances .exit)) ≡ 256) × Distances (graphOf (now (scheme .entry)) (now (network .entry))) v limit (now (distances .exit)) ⌝ }
+{
+    clear(distances);
+    distances[v] = 1;
+    let last = limit as u16;
+    let mut mark: u16 = 1;
+    while mark <= last {
+        if !layer(scheme, c, marks, network, mark, distances) {
+            return;
+        }
+        mark += 1;
+    }
+}
+
+// Whether at most k friendships join a member with the one whose distances these are.
+pub fn within(distances: &[u16], m: usize, k: usize) -> bool
+    requires { ⌜ m < length (now distances) ⌝ }
+    ensures { λ r. ⌜ ((g : Graph) (v limit : ℕ) → Distances g v limit (now (distances .entry)) → m < g .members → k ≤ limit → Decides r (Within g k m v)) ⌝ }
+{
+    let d = distances[m] as usize;
+    if d == 0 {
+        return false;
+    }
+    d - 1 <= k
+}

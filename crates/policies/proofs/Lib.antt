@@ -1,0 +1,4 @@
+pub mod Reaching
+pub mod ByKind
+pub mod Granting
+pub mod Preparing

@@ -1,0 +1,242 @@
+use Prim.Native.Nat.{ℕ, _≤_, _<_}
+use mathlib.Core.Path.{_≡_}
+use mathlib.Core.Bool.{Bool, true, false, _&&_, _||_}
+use native.Mathlib.Omega.{arith}
+use denote.Ref.{now}
+use lib.Dec.{eqb}
+use Rattle.model.specs.Bytes.{bit}
+use Rattle.model.specs.Decides.{Decides}
+use Rattle.model.specs.Graph.{Graph}
+use Rattle.model.specs.Policies.{Admits}
+use Rattle.model.specs.SchemeBytes.{schemeOf}
+use Rattle.model.proofs.Deciding.{Says, decided, conj, disj, is-eq}
+use Rattle.tables.specs.declared.Rule.{Rule}
+use Rattle.tables.specs.declared.Rule.the-variants.{NoOne, Everyone, Owner, Within, Known, Clique, State, Both, Either}
+use Rattle.tables.specs.Rules.{policyOfRule, RuleFits}
+use Rattle.network.specs.Ready.{graphOf}
+use Rattle.network.proofs.Reading.{ready-range}
+use Rattle.clique.proofs.Networks.{network-undirected}
+use Rattle.policies.proofs.Granting.{near-of, known-rows, clique-rows, bit-says}
+use borrow.Author.Needs.{needs}
+use Rattle.policies.proofs.rule_admits.Statement.{statement}
+use Rattle.policies.proofs.rule_admits.Tie as tie
+
+module _ (s : tie.Start) where
+  abbrev graph : Graph
+  graph = graphOf (now (s .args .scheme)) (now (s .args .network))
+
+  -- the answer says whether a rule admits
+  abbrev Right : Bool → Rule → Type 0
+  Right r rule = Decides r (Admits graph (policyOfRule (schemeOf (now (s .args .scheme)) .policy) rule) (s .args .u) (s .args .v))
+
+  told : (r : Bool) (rule : Rule) → s .args .rule ≡ rule → Right r rule → Right r (s .args .rule)
+  told r rule e d = rw e d
+
+  fits : (rule : Rule) → s .args .rule ≡ rule → RuleFits (s .pre .2 .p) rule
+  fits rule e = rw e at (s .pre .2 .at .fits)
+
+  few : graph .members ≤ 256
+  few = omega (arith, ready-range (s .pre .0), s .pre .0 .counts)
+
+  inside : (s .args .u < graph .members) × (s .args .v < graph .members)
+  inside = omega (arith, s .pre .0 .counts)
+
+  small : (s .args .u < 256) × (s .args .v < 256)
+  small = omega (arith, ready-range (s .pre .0))
+
+  -- an operand's bit
+  abbrev has : ℕ → Bool
+  has q = bit (s .args .set) q
+
+  low : (q : ℕ) → q < s .pre .2 .p → Says (has q) (Admits graph (schemeOf (now (s .args .scheme)) .policy q) (s .args .u) (s .args .v))
+  low = bit-says (now (s .args .scheme)) (now (s .args .network)) (s .args .u) (s .args .v) (s .args .set) (s .pre .2 .p) (s .pre .2 .lower)
+
+  told-both : (l r : ℕ) (t : Bool) → s .args .rule ≡ Both l r → (has l && has r) ≡ t → Right t (s .args .rule)
+  told-both l r t e d =
+      let f = fits (Both l r) e in
+      told t (Both l r) e (decided (rw d at (conj (low l (f .0)) (low r (f .1)))))
+
+  told-either : (l r : ℕ) (t : Bool) → s .args .rule ≡ Either l r → (has l || has r) ≡ t → Right t (s .args .rule)
+  told-either l r t e d =
+      let f = fits (Either l r) e in
+      told t (Either l r) e (decided (rw d at (disj (low l (f .0)) (low r (f .1)))))
+
+enum-told : tie.Need-enum-told
+enum-told c = search needs
+
+enum-told-2 : tie.Need-enum-told-2
+enum-told-2 c = search needs
+
+enum-told-3 : tie.Need-enum-told-3
+enum-told-3 c = search needs
+
+enum-known-rule : tie.Need-enum-known-rule
+enum-known-rule c = search needs
+
+wide-requires : tie.Need-wide-requires
+wide-requires c κs = search needs
+
+within-requires : tie.Need-within-requires
+within-requires c κs =
+    let s = c .before .before .before .before .before .before .before .before in
+    omega (arith, small s, s .pre .1 .distances-long)
+
+enum-known-rule-2 : tie.Need-enum-known-rule-2
+enum-known-rule-2 c = search needs
+
+wide-requires-2 : tie.Need-wide-requires-2
+wide-requires-2 c κs = search needs
+
+known-requires : tie.Need-known-requires
+known-requires c κs =
+    let s = c .before .before .before .before .before .before .before .before in
+    omega (arith, small s, s .pre .1 .rows-long)
+
+enum-known-rule-3 : tie.Need-enum-known-rule-3
+enum-known-rule-3 c = search needs
+
+wide-requires-3 : tie.Need-wide-requires-3
+wide-requires-3 c κs = search needs
+
+in-clique-requires : tie.Need-in-clique-requires
+in-clique-requires c κs =
+    let s = c .before .before .before .before .before .before .before .before in
+    let k = c .before .before .rule3 .given in
+    omega (arith, small s, s .pre .1 .rows-long, fits s (Clique (k .0 .0)) (k .1))
+
+enum-known-rule-4 : tie.Need-enum-known-rule-4
+enum-known-rule-4 c = search needs
+
+in-state-requires : tie.Need-in-state-requires
+in-state-requires c κs =
+    let s = c .before .before .before .before .before .before .before in
+    let k = c .before .rule4 .given in
+    (s .pre .0, fits s (State (k .0 .0) (k .0 .1 .0)) (k .1), s .pre .3, s .pre .4)
+
+enum-known-rule-5 : tie.Need-enum-known-rule-5
+enum-known-rule-5 c = search needs
+
+wide-requires-4 : tie.Need-wide-requires-4
+wide-requires-4 c κs = search needs
+
+offered-requires : tie.Need-offered-requires
+offered-requires c κs = search needs
+
+wide-requires-5 : tie.Need-wide-requires-5
+wide-requires-5 c κs = search needs
+
+offered-requires-2 : tie.Need-offered-requires-2
+offered-requires-2 c κs = search needs
+
+enum-known-rule-6 : tie.Need-enum-known-rule-6
+enum-known-rule-6 c = search needs
+
+wide-requires-6 : tie.Need-wide-requires-6
+wide-requires-6 c κs = search needs
+
+offered-requires-3 : tie.Need-offered-requires-3
+offered-requires-3 c κs = search needs
+
+wide-requires-7 : tie.Need-wide-requires-7
+wide-requires-7 c κs = search needs
+
+offered-requires-4 : tie.Need-offered-requires-4
+offered-requires-4 c κs = search needs
+
+returns : tie.Need-returns
+returns c = told (c .before .before .before .before .before .before) false NoOne (c .enum-told .given .1) (λ h. h)
+
+returns-2 : tie.Need-returns-2
+returns-2 c = told (c .before .before .before .before .before .before) true Everyone (c .enum-told2 .given .1) tt
+
+returns-3 : tie.Need-returns-3
+returns-3 c =
+    let s = c .before .before .before .before .before .before in
+    let u = s .args .u in
+    let v = s .args .v in
+    told s (eqb u v) Owner (c .enum-told3 .given .1) (decided (is-eq u v))
+
+returns-4 : tie.Need-returns-4
+returns-4 c =
+    let s = c .before .before .before .before .before .before .before .before .before in
+    let k = c .before .before .before .rule .given in
+    let (limit, l, d) = near-of (s .pre .2) (s .pre .1) (k .0 .0) (k .1) in
+    told s (c .within .result) (Within (k .0 .0)) (k .1)
+    (rw (← c .before .wide .ensures .0) (c .within .ensures (graph s) (s .args .v) limit d (inside s .0) (omega arith)))
+
+returns-5 : tie.Need-returns-5
+returns-5 c =
+    let s = c .before .before .before .before .before .before .before .before .before in
+    let k = c .before .before .before .rule2 .given in
+    let rows = known-rows (s .pre .2) (s .pre .1) (k .0 .0) (k .1) in
+    told s (c .known .result) (Known (k .0 .0)) (k .1)
+    (rw (← c .before .wide2 .ensures .0) (c .known .ensures (graph s) rows (few s) (inside s .0) (inside s .1)))
+
+returns-6 : tie.Need-returns-6
+returns-6 c =
+    let s = c .before .before .before .before .before .before .before .before .before in
+    let k = c .before .before .before .rule3 .given in
+    let rows = clique-rows (s .pre .2) (s .pre .1) (k .0 .0) (k .1) in
+    told s (c .in-clique .result) (Clique (k .0 .0)) (k .1)
+    (rw (← c .before .wide3 .ensures .0)
+    (c .in-clique .ensures (graph s) rows (network-undirected (now (s .args .scheme)) (now (s .args .network))) (few s) (inside s .0) (inside s .1)))
+
+returns-7 : tie.Need-returns-7
+returns-7 c =
+    let s = c .before .before .before .before .before .before .before .before in
+    let k = c .before .before .rule4 .given in
+    told s (c .in-state .result) (State (k .0 .0) (k .0 .1 .0)) (k .1) (c .in-state .ensures)
+
+returns-8 : tie.Need-returns-8
+returns-8 c =
+    let s = c .before .before .before .before .before .before .before .before .before .before .before in
+    let k = c .before .before .before .before .before .rule5 .given in
+    let l : has s (k .0 .0) ≡ c .before .before .offered .result = cc in
+    let r : has s (k .0 .1 .0) ≡ c .offered2 .result = cc in
+    told-both s (k .0 .0) (k .0 .1 .0) (c .before .before .offered .result && c .offered2 .result) (k .1) (rw (l, r))
+
+returns-9 : tie.Need-returns-9
+returns-9 c =
+    let s = c .before .before .before .before .before .before .before .before .before .before .before in
+    let k = c .before .before .before .before .before .rule6 .given in
+    let l : has s (k .0 .0) ≡ c .before .before .offered3 .result = cc in
+    let r : has s (k .0 .1 .0) ≡ c .offered4 .result = cc in
+    told-either s (k .0 .0) (k .0 .1 .0) (c .before .before .offered3 .result || c .offered4 .result) (k .1) (rw (l, r))
+
+pub rule-admits-spec : {M : Type 1} → statement M
+rule-admits-spec =
+    tie.close
+    (tie.spec
+    enum-told
+    enum-told-2
+    enum-told-3
+    enum-known-rule
+    wide-requires
+    within-requires
+    enum-known-rule-2
+    wide-requires-2
+    known-requires
+    enum-known-rule-3
+    wide-requires-3
+    in-clique-requires
+    enum-known-rule-4
+    in-state-requires
+    enum-known-rule-5
+    wide-requires-4
+    offered-requires
+    wide-requires-5
+    offered-requires-2
+    enum-known-rule-6
+    wide-requires-6
+    offered-requires-3
+    wide-requires-7
+    offered-requires-4
+    returns
+    returns-2
+    returns-3
+    returns-4
+    returns-5
+    returns-6
+    returns-7
+    returns-8
+    returns-9)

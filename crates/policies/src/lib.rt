@@ -1,0 +1,225 @@
+// Whom a setting admits (document 01, "Policies").
+use tables::Counts;
+use tables::Rule;
+ghost use mathlib.Core.Path.{_≡_};
+ghost use Prim.Native.Nat.{ℕ, _+_, _<_, _≤_};
+ghost use lib.ListN.{length};
+ghost use Rattle.model.specs.Decides.{Decides};
+ghost use Rattle.model.specs.Graph.{Graph};
+ghost use Rattle.model.specs.Policies.{Policy, Admits, known as knownOf, clique as cliqueOf, state as stateOf};
+ghost use Rattle.model.specs.SchemeBytes.{schemeOf, sideOf};
+ghost use Rattle.tables.specs.Read.{ReadAs, MarksOf};
+ghost use Rattle.tables.specs.Rules.{policyOfRule};
+ghost use Rattle.network.specs.Ready.{Ready, graphOf};
+ghost use Rattle.network.specs.Rows.{rowBit};
+ghost use Rattle.clique.specs.Cliques.{rowOf, AllRows, Undirected};
+ghost use Rattle.policies.specs.Admission.{Prepared, Admitted, NextRule};
+ghost use Rattle.policies.specs.Reading.{Reach, Farthest, ReadsRows, SomeReadsRows};
+
+// The k of a rule of kind within; 0 of any other.
+fn reach(rule: Rule) -> usize
+    ensures { λ r. ⌜ Reach rule r ⌝ }
+{
+    match rule {
+        Rule::Within(k) => records::wide(k),
+        _ => 0,
+    }
+}
+
+// The greatest k of a policy of kind within; 0 where there is none.
+fn farthest(scheme: &[u8], c: Counts) -> usize
+    requires { ⌜ ReadAs (now scheme) c ⌝ }
+    ensures { λ r. ⌜ Farthest (now (scheme .entry)) (c .policies) r ⌝ }
+{
+    let mut most: usize = 0;
+    let mut p: usize = 0;
+    while p < c.policies {
+        let k = reach(tables::policy(scheme, c, p));
+        p += 1;
+        if k > most {
+            most = k;
+        }
+    }
+    most
+}
+
+// Whether a rule reads friend rows.
+fn row_rule(rule: Rule) -> bool
+    ensures { λ r. ⌜ ((lower : ℕ → Policy) → Decides r (ReadsRows (policyOfRule lower rule))) ⌝ }
+{
+    match rule {
+        Rule::Known(_) => true,
+        Rule::Clique(_) => true,
+        _ => false,
+    }
+}
+
+// Whether some policy reads friend rows.
+fn reads_rows(scheme: &[u8], c: Counts) -> bool
+    requires { ⌜ ReadAs (now scheme) c ⌝ }
+    ensures { λ r. ⌜ Decides r (SomeReadsRows (now (scheme .entry)) (c .policies)) ⌝ }
+{
+    let mut p: usize = 0;
+    while p < c.policies {
+        if row_rule(tables::policy(scheme, c, p)) {
+            return true;
+        }
+        p += 1;
+    }
+    false
+}
+
+// Computes what depends on accessor v alone, as far as a policy of the scheme reads it.
+pub fn prepare(
+    scheme: &[u8],
+    c: Counts,
+    marks: u16,
+    network: &[u8],
+    v: usize,
+    distances: &mut [u16],
+    rows: &mut [u64],
+)
+    requires { ⌜ Ready (now scheme) c (now network) × MarksOf (now scheme) (c .states) marks × (v < c .members) × (length (now distances) ≡ 256) × (length (now rows) ≡ 1024) ⌝ }
+    ensures { λ r. ⌜ Prepared (now (scheme .entry)) (now (network .entry)) v (now (distances .exit)) (now (rows .exit)) ⌝ }
+{
+    let limit = farthest(scheme, c);
+    if limit != 0 {
+        distance::fill(scheme, c, marks, network, v, limit, distances);
+    }
+    if reads_rows(scheme, c) {
+        clique::fill_rows(scheme, c, marks, network, rows);
+    }
+}
+
+// Whether v is in u's friend row.
+fn in_row(rows: &[u64], u: usize, v: usize) -> bool
+    requires { ⌜ (length (now rows) ≡ 1024) × (u < 256) × (v < 256) ⌝ }
+    ensures { λ r. ⌜ r ≡ rowBit (rowOf (now (rows .entry)) u) v ⌝ }
+{
+    (rows[u * 4 + v / 64] >> (v % 64)) & 1 == 1
+}
+
+// Kind 4: whether u and v are one, or friends, or have at least k friends in common.
+fn known(rows: &[u64], u: usize, v: usize, k: usize) -> bool
+    requires { ⌜ (length (now rows) ≡ 1024) × (u < 256) × (v < 256) ⌝ }
+    ensures { λ r. ⌜ ((g : Graph) → AllRows g (now (rows .entry)) → g .members ≤ 256 → u < g .members → v < g .members → Decides r (Admits g (knownOf k) u v)) ⌝ }
+{
+    if u == v {
+        return true;
+    }
+    if in_row(rows, u, v) {
+        return true;
+    }
+    k <= network::rows::shared(clique::row(rows, u), clique::row(rows, v)) as usize
+}
+
+// Kind 5: whether u and v are one, or in a clique of k members.
+fn in_clique(rows: &[u64], u: usize, v: usize, k: usize) -> bool
+    requires { ⌜ (length (now rows) ≡ 1024) × (u < 256) × (v < 256) × (2 ≤ k) × (k ≤ 5) ⌝ }
+    ensures { λ r. ⌜ ((g : Graph) → AllRows g (now (rows .entry)) → Undirected g → g .members ≤ 256 → u < g .members → v < g .members → Decides r (Admits g (cliqueOf k) u v)) ⌝ }
+{
+    if u == v {
+        return true;
+    }
+    k <= clique::largest(rows, u, v)
+}
+
+// Kind 6: whether the state of u and v is in the set, and u on that side.
+fn in_state(
+    scheme: &[u8],
+    c: Counts,
+    network: &[u8],
+    states: u16,
+    side: u8,
+    u: usize,
+    v: usize,
+) -> bool
+    requires { ⌜ Ready (now scheme) c (now network) × (side ≤ 2) × (u < c .members) × (v < c .members) ⌝ }
+    ensures { λ r. ⌜ Decides r (Admits (graphOf (now (scheme .entry)) (now (network .entry))) (stateOf states (sideOf side)) u v) ⌝ }
+{
+    let q = network::read::state(scheme, c, network, u, v);
+    if !tables::offered(states as u32, records::wide(q)) {
+        return false;
+    }
+    match side {
+        0 => true,
+        1 => u < v,
+        _ => u > v,
+    }
+}
+
+// Whether a rule admits accessor v to what owner u has; set has the policies of lower number that do.
+fn rule_admits(
+    scheme: &[u8],
+    c: Counts,
+    network: &[u8],
+    distances: &[u16],
+    rows: &[u64],
+    rule: Rule,
+    set: u32,
+    u: usize,
+    v: usize,
+) -> bool
+    requires { ⌜ Ready (now scheme) c (now network) × Prepared (now scheme) (now network) v (now distances) (now rows) × NextRule (now scheme) (now network) u v set rule × (u < c .members) × (v < c .members) ⌝ }
+    ensures { λ r. ⌜ Decides r (Admits (graphOf (now (scheme .entry)) (now (network .entry))) (policyOfRule (schemeOf (now (scheme .entry)) .policy) rule) u v) ⌝ }
+{
+    match rule {
+        Rule::NoOne => false,
+        Rule::Everyone => true,
+        Rule::Owner => u == v,
+        Rule::Within(k) => distance::within(distances, u, records::wide(k)),
+        Rule::Known(k) => known(rows, u, v, records::wide(k)),
+        Rule::Clique(k) => in_clique(rows, u, v, records::wide(k)),
+        Rule::State { set: states, side } => in_state(scheme, c, network, states, side, u, v),
+        Rule::Both { left, right } => {
+            tables::offered(set, records::wide(left)) & tables::offered(set, records::wide(right))
+        }
+        Rule::Either { left, right } => {
+            tables::offered(set, records::wide(left)) | tables::offered(set, records::wide(right))
+        }
+    }
+}
+
+// The policies of the first count that admit accessor v to what owner u has, as a set.
+pub fn admitted(
+    scheme: &[u8],
+    c: Counts,
+    network: &[u8],
+    distances: &[u16],
+    rows: &[u64],
+    u: usize,
+    v: usize,
+    count: usize,
+) -> u32
+    requires { ⌜ Ready (now scheme) c (now network) × Prepared (now scheme) (now network) v (now distances) (now rows) × (u < c .members) × (v < c .members) × (count ≤ c .policies) ⌝ }
+    ensures { λ r. ⌜ Admitted (now (scheme .entry)) (now (network .entry)) u v r count ⌝ }
+{
+    let mut set: u32 = 0;
+    let mut p: usize = 0;
+    while p < count {
+        let rule = tables::policy(scheme, c, p);
+        if rule_admits(scheme, c, network, distances, rows, rule, set, u, v) {
+            set = set | (1u32 << p);
+        }
+        p += 1;
+    }
+    set
+}
+
+// Whether policy p admits accessor v to what owner u has.
+pub fn admits(
+    scheme: &[u8],
+    c: Counts,
+    network: &[u8],
+    distances: &[u16],
+    rows: &[u64],
+    u: usize,
+    v: usize,
+    p: usize,
+) -> bool
+    requires { ⌜ Ready (now scheme) c (now network) × Prepared (now scheme) (now network) v (now distances) (now rows) × (u < c .members) × (v < c .members) × (p < c .policies) ⌝ }
+    ensures { λ r. ⌜ Decides r (Admits (graphOf (now (scheme .entry)) (now (network .entry))) (schemeOf (now (scheme .entry)) .policy p) u v) ⌝ }
+{
+    let set = admitted(scheme, c, network, distances, rows, u, v, p + 1);
+    tables::offered(set, p)
+}
