@@ -13,3 +13,11 @@ pub mod StandardRead
 pub mod Cliques
 pub mod Sets
 pub mod Symmetry
+pub mod Once
+pub mod Replayed
+pub mod Unseeing
+pub mod Sane
+pub mod Laying
+pub mod Accepting
+pub mod Tracing
+pub mod Playing

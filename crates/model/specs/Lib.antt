@@ -11,4 +11,9 @@ pub mod Requests
 pub mod Calls
 pub mod Log
 pub mod Standard
+pub mod Machine
+pub mod History
+pub mod Claims
+pub mod Traces
+pub mod Session
 pub mod Examples

@@ -1,0 +1,29 @@
+-- The plain machine (document 01, "Demand 3's plain machine").
+use Prim.Native.Nat.{ℕ}
+use mathlib.Core.Path.{_≡_}
+use mathlib.Core.List.{List, [], _∷_}
+use Rattle.model.specs.Answers.{Answers}
+use Rattle.model.specs.Scheme.{Scheme}
+use Rattle.model.specs.Network.{Maps}
+use Rattle.model.specs.Requests.{Request, needs, writes, does, Turn, granted}
+
+-- the machine gives this answer and writes this list
+pub record Judged (c : Scheme) (s : Maps) (t : Turn) : Type 0 where
+  pub answered : Answers (needs c s (t .request)) (t .answer)
+  pub wrote : t .written ≡ granted (t .answer) (writes c s (t .request)) []
+
+abbrev pub after : Scheme → Maps → Turn → Maps
+after c s t = granted (t .answer) (does c s (t .request)) s
+
+abbrev pub Runs : Scheme → Maps → List Turn → Type 0
+Runs c s [] = Unit {0}
+Runs c s (t ∷ ts) = Judged c s t × Runs c (after c s t) ts
+
+-- the maps after the turns
+abbrev pub afterAll : Scheme → Maps → List Turn → Maps
+afterAll c s [] = s
+afterAll c s (t ∷ ts) = afterAll c (after c s t) ts
+
+abbrev pub requests : List Turn → List Request
+requests [] = []
+requests (t ∷ ts) = t .request ∷ requests ts
