@@ -54,7 +54,8 @@ fn meet(a: [u64; 4], b: [u64; 4]) -> [u64; 4]
     [a[0] & b[0], a[1] & b[1], a[2] & b[2], a[3] & b[3]]
 }
 
-fn has(set: [u64; 4], m: usize) -> bool
+// Whether a set has member m.
+pub fn has(set: [u64; 4], m: usize) -> bool
     requires { ⌜ m < 256 ⌝ }
     ensures { λ r. ⌜ r ≡ rowBit set m ⌝ }
 {

@@ -1,36 +1,14 @@
 -- The kinds of policies, each by what is computed for it.
-use Prim.Native.Nat.{ℕ, zero, suc, _+_, _*_, _/_, _%_, _^_, _≤_, _<_}
-use mathlib.Core.Path.{_≡_, refl, sym, ap, _∙_}
+use Prim.Native.Nat.{ℕ, _≤_}
+use mathlib.Core.Path.{_≡_, sym, _∙_}
 use mathlib.Core.Bool.{Bool, false, false≢true}
-use mathlib.Core.List.{List}
 use mathlib.Core.Logic.{inl, inr}
-use native.Mathlib.Nat.{add-zero}
-use native.Mathlib.Omega.{arith}
-use lib.Bits.{bitAnd}
-use lib.Dec.{eqb, leb}
-use lib.ListN.{getD}
-use Rattle.model.specs.Bytes.{digit}
+use lib.Dec.{leb}
 use Rattle.model.specs.Decides.{Decides}
 use Rattle.model.specs.Graph.{Graph, shared}
 use Rattle.model.specs.Policies.{Admits, known, clique}
-use Rattle.model.proofs.Bits.{shr-and-one}
 use Rattle.model.proofs.Deciding.{Says, decided, iff, is-le}
-use Rattle.network.specs.Rows.{rowBit}
-use Rattle.clique.specs.Cliques.{rowOf, LargestClique}
-
--- word w of member m's row
-row-word : (rows : List ℕ) (m w : ℕ) → w < 4 → getD (rowOf rows m) w 0 ≡ getD rows (m * 4 + w) 0
-row-word rows m zero l = rw add-zero
-row-word rows m (suc zero) l = refl
-row-word rows m (suc (suc zero)) l = refl
-row-word rows m (suc (suc (suc zero))) l = refl
-row-word rows m (suc (suc (suc (suc w)))) l = absurd (omega arith)
-
--- `(rows[u * 4 + v / 64] >> (v % 64)) & 1 == 1`
-pub row-bit : (rows : List ℕ) (u v : ℕ) → v < 256 → eqb (bitAnd (getD rows (u * 4 + v / 64) 0 / 2 ^ (v % 64)) 1) 1 ≡ rowBit (rowOf rows u) v
-row-bit rows u v l =
-    ap (λ (d : ℕ). eqb d 1) (shr-and-one (getD rows (u * 4 + v / 64) 0) (v % 64))
-    ∙ ap (λ (w : ℕ). eqb (digit w (v % 64)) 1) (sym (row-word rows u (v / 64) (omega arith)))
+use Rattle.clique.specs.Cliques.{LargestClique}
 
 module _ (g : Graph) (u v k : ℕ) (apart : u ≡ v → ⊥) where
   -- two that are not friends are known by their shared friends

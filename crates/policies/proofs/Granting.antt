@@ -12,12 +12,17 @@ use Rattle.model.specs.Policies.{Admits}
 use Rattle.model.specs.SchemeBytes.{schemeOf}
 use Rattle.model.proofs.Sets.{Added, none-in-zero}
 use Rattle.model.proofs.Deciding.{Says, says, is-so}
+use Rattle.tables.specs.declared.Counts.{Counts}
 use Rattle.tables.specs.declared.Rule.{Rule}
 use Rattle.tables.specs.declared.Rule.the-variants.{Within, Known, Clique}
-use Rattle.network.specs.Ready.{graphOf}
-use Rattle.clique.specs.Cliques.{AllRows}
+use Rattle.network.specs.Ready.{Ready, graphOf}
+use Rattle.network.proofs.Reading.{ready-range}
+use Rattle.clique.specs.Cliques.{AllRows, LargestClique}
+use Rattle.clique.specs.Sets.{RowsOf}
+use Rattle.clique.proofs.Networks.{network-undirected}
 use Rattle.distance.specs.Distances.{Distances}
 use Rattle.policies.specs.Admission.{Prepared, Admitted, NextRule}
+use Rattle.policies.specs.Reading.{IsClique, CliqueSize}
 
 -- a policy's bit
 pub bit-says : (b net : List ℕ) (u v set count : ℕ) → Admitted b net u v set count → (p : ℕ) → p < count
@@ -26,18 +31,39 @@ bit-says b net u v set count a p l =
     let (to, from) = a p l in
     record { yes-if = to; no-if = λ e h. false≢true (sym e ∙ from h) }
 
-module _ {b net : List ℕ} {u v set : ℕ} {rule : Rule} (next : NextRule b net u v set rule) where
+module _ {b net : List ℕ} {u v set size : ℕ} {rule : Rule} (next : NextRule b net u v set size rule) where
   module _ {distances rows : List ℕ} (prepared : Prepared b net v distances rows) (k : ℕ) where
     -- the distances that a rule of kind within reads
     pub near-of : rule ≡ Within k → (limit : ℕ) × (k ≤ limit) × Distances (graphOf b net) v limit distances
     near-of e = prepared .near (next .p) k (next .below) (next .at .policy ∙ rw e)
 
-    -- the rows that a rule of kind known or clique reads
+    -- the rows that a rule of kind known reads
     pub known-rows : rule ≡ Known k → AllRows (graphOf b net) rows
     known-rows e = prepared .rowed (next .p) k (next .below) (inl (next .at .policy ∙ rw e))
 
-    pub clique-rows : rule ≡ Clique k → AllRows (graphOf b net) rows
-    clique-rows e = prepared .rowed (next .p) k (next .below) (inr (next .at .policy ∙ rw e))
+  -- the size that a rule of kind clique reads
+  pub size-of : (k : ℕ) → rule ≡ Clique k → (u ≡ v → ⊥) → LargestClique (graphOf b net) u v size
+  size-of k e = next .sized (k, next .at .policy ∙ rw e)
+
+-- the size, of the prepared rows, is what a policy of kind clique reads
+pub sized-by : {b net distances rows : List ℕ} {c : Counts} {u v count size : ℕ} → Ready b c net → Prepared b net v distances rows
+    → CliqueSize b rows u v count size
+    → u < c .members
+    → v < c .members
+    → count ≤ c .policies
+    → (p : ℕ)
+    → p < count
+    → IsClique (schemeOf b .policy p)
+    → (u ≡ v → ⊥)
+    → LargestClique (graphOf b net) u v size
+sized-by {b} {net} ready prepared s i j few p l (k, e) =
+    let counts = ready .counts in
+    let rows : RowsOf (graphOf b net) _ = record {
+      each = prepared .rowed p k (omega arith) (inr e);
+      few = omega (arith, ready-range ready);
+      undirected = network-undirected b net;
+    } in
+    s .largest (graphOf b net) rows (omega arith) (omega arith) (p, l, (k, e))
 
 -- of the first count policies the set has those that admit, and it has no other bit
 pub record Admitting (b net : List ℕ) (u v set count : ℕ) : Type 0 where

@@ -9,7 +9,7 @@ use Rattle.model.specs.SchemeBytes.{P, schemeOf}
 use Rattle.network.specs.Ready.{graphOf}
 use Rattle.clique.specs.Cliques.{AllRows}
 use Rattle.distance.specs.Distances.{Distances}
-use Rattle.policies.specs.Reading.{Farthest, SomeReadsRows}
+use Rattle.policies.specs.Reading.{Farthest, ReadsRows, SomePolicy}
 
 -- the distances that policies read
 abbrev pub Near : List ℕ → List ℕ → ℕ → List ℕ → Type 0
@@ -24,7 +24,7 @@ module _ {b : List ℕ} {count limit : ℕ} (far : Farthest b count limit) (e : 
   near-unread z p k l h = let (x, y) = far .most p k (omega arith) h in absurd (omega arith)
 
 -- rows that no policy reads
-pub unrowed : (b net : List ℕ) {count : ℕ} → (SomeReadsRows b count → ⊥) → count ≡ P b → (rows : List ℕ) (p k : ℕ) → p < P b
+pub unrowed : (b net : List ℕ) {count : ℕ} → (SomePolicy ReadsRows b count → ⊥) → count ≡ P b → (rows : List ℕ) (p k : ℕ) → p < P b
     → (schemeOf b .policy p ≡ known k) ⊎ (schemeOf b .policy p ≡ clique k)
     → AllRows (graphOf b net) rows
 unrowed b net none e rows p k l h = absurd (none (p, omega arith, (k, h)))

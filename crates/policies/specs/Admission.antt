@@ -11,8 +11,9 @@ use Rattle.model.specs.SchemeBytes.{P, schemeOf}
 use Rattle.tables.specs.Rules.{RuleAt}
 use Rattle.tables.specs.declared.Rule.{Rule}
 use Rattle.network.specs.Ready.{graphOf}
-use Rattle.clique.specs.Cliques.{AllRows}
+use Rattle.clique.specs.Cliques.{AllRows, LargestClique}
 use Rattle.distance.specs.Distances.{Distances}
+use Rattle.policies.specs.Reading.{IsClique}
 
 -- what depends on accessor v alone, as far as a policy of the scheme reads it: its distances, and the friend rows
 pub record Prepared (b net : List ℕ) (v : ℕ) (distances rows : List ℕ) : Type 0 where
@@ -26,9 +27,10 @@ abbrev pub Admitted : List ℕ → List ℕ → ℕ → ℕ → ℕ → ℕ → 
 Admitted b net u v set count =
     (p : ℕ) → p < count → (bit set p ≡ true) ↔ Admits (graphOf b net) (schemeOf b .policy p) u v
 
--- the rule is that of a policy, and the set has the policies of lower number that admit
-pub record NextRule (b net : List ℕ) (u v set : ℕ) (rule : Rule) : Type 0 where
+-- the rule is that of a policy, the set has the policies of lower number that admit, and the size is what a clique reads
+pub record NextRule (b net : List ℕ) (u v set size : ℕ) (rule : Rule) : Type 0 where
   pub p : ℕ
   pub below : p < P b
   pub at : RuleAt b p rule
   pub lower : Admitted b net u v set p
+  pub sized : IsClique (schemeOf b .policy p) → (u ≡ v → ⊥) → LargestClique (graphOf b net) u v size

@@ -6,15 +6,14 @@ ghost use Prim.Native.Nat.{ℕ, _+_, _<_, _≤_};
 ghost use lib.ListN.{length};
 ghost use Rattle.model.specs.Decides.{Decides};
 ghost use Rattle.model.specs.Graph.{Graph};
-ghost use Rattle.model.specs.Policies.{Policy, Admits, known as knownOf, clique as cliqueOf, state as stateOf};
+ghost use Rattle.model.specs.Policies.{Policy, Admits, known as knownOf, state as stateOf};
 ghost use Rattle.model.specs.SchemeBytes.{schemeOf, sideOf};
 ghost use Rattle.tables.specs.Read.{ReadAs, MarksOf};
 ghost use Rattle.tables.specs.Rules.{policyOfRule};
 ghost use Rattle.network.specs.Ready.{Ready, graphOf};
-ghost use Rattle.network.specs.Rows.{rowBit};
-ghost use Rattle.clique.specs.Cliques.{rowOf, AllRows, Undirected};
+ghost use Rattle.clique.specs.Cliques.{AllRows};
 ghost use Rattle.policies.specs.Admission.{Prepared, Admitted, NextRule};
-ghost use Rattle.policies.specs.Reading.{Reach, Farthest, ReadsRows, SomeReadsRows};
+ghost use Rattle.policies.specs.Reading.{Reach, Farthest, IsClique, ReadsRows, SomePolicy, CliqueSize};
 
 // The k of a rule of kind within; 0 of any other.
 fn reach(rule: Rule) -> usize
@@ -43,21 +42,30 @@ fn farthest(scheme: &[u8], c: Counts) -> usize
     most
 }
 
+// Whether a rule is of kind clique.
+fn clique_rule(rule: Rule) -> bool
+    ensures { λ r. ⌜ ((lower : ℕ → Policy) → Decides r (IsClique (policyOfRule lower rule))) ⌝ }
+{
+    match rule {
+        Rule::Clique(_) => true,
+        _ => false,
+    }
+}
+
 // Whether a rule reads friend rows.
 fn row_rule(rule: Rule) -> bool
     ensures { λ r. ⌜ ((lower : ℕ → Policy) → Decides r (ReadsRows (policyOfRule lower rule))) ⌝ }
 {
     match rule {
         Rule::Known(_) => true,
-        Rule::Clique(_) => true,
-        _ => false,
+        _ => clique_rule(rule),
     }
 }
 
 // Whether some policy reads friend rows.
 fn reads_rows(scheme: &[u8], c: Counts) -> bool
     requires { ⌜ ReadAs (now scheme) c ⌝ }
-    ensures { λ r. ⌜ Decides r (SomeReadsRows (now (scheme .entry)) (c .policies)) ⌝ }
+    ensures { λ r. ⌜ Decides r (SomePolicy ReadsRows (now (scheme .entry)) (c .policies)) ⌝ }
 {
     let mut p: usize = 0;
     while p < c.policies {
@@ -91,14 +99,6 @@ pub fn prepare(
     }
 }
 
-// Whether v is in u's friend row.
-fn in_row(rows: &[u64], u: usize, v: usize) -> bool
-    requires { ⌜ (length (now rows) ≡ 1024) × (u < 256) × (v < 256) ⌝ }
-    ensures { λ r. ⌜ r ≡ rowBit (rowOf (now (rows .entry)) u) v ⌝ }
-{
-    (rows[u * 4 + v / 64] >> (v % 64)) & 1 == 1
-}
-
 // Kind 4: whether u and v are one, or friends, or have at least k friends in common.
 fn known(rows: &[u64], u: usize, v: usize, k: usize) -> bool
     requires { ⌜ (length (now rows) ≡ 1024) × (u < 256) × (v < 256) ⌝ }
@@ -107,21 +107,29 @@ fn known(rows: &[u64], u: usize, v: usize, k: usize) -> bool
     if u == v {
         return true;
     }
-    if in_row(rows, u, v) {
+    let of_u = clique::row(rows, u);
+    if clique::has(of_u, v) {
         return true;
     }
-    k <= network::rows::shared(clique::row(rows, u), clique::row(rows, v)) as usize
+    k <= network::rows::shared(of_u, clique::row(rows, v)) as usize
 }
 
-// Kind 5: whether u and v are one, or in a clique of k members.
-fn in_clique(rows: &[u64], u: usize, v: usize, k: usize) -> bool
-    requires { ⌜ (length (now rows) ≡ 1024) × (u < 256) × (v < 256) × (2 ≤ k) × (k ≤ 5) ⌝ }
-    ensures { λ r. ⌜ ((g : Graph) → AllRows g (now (rows .entry)) → Undirected g → g .members ≤ 256 → u < g .members → v < g .members → Decides r (Admits g (cliqueOf k) u v)) ⌝ }
+// The size of the largest clique with u and v, looked for only where one of the first count policies is of kind clique.
+fn clique_size(scheme: &[u8], c: Counts, rows: &[u64], u: usize, v: usize, count: usize) -> usize
+    requires { ⌜ ReadAs (now scheme) c × (length (now rows) ≡ 1024) × (u < 256) × (v < 256) × (count ≤ c .policies) ⌝ }
+    ensures { λ r. ⌜ CliqueSize (now (scheme .entry)) (now (rows .entry)) u v count r ⌝ }
 {
     if u == v {
-        return true;
+        return 0;
     }
-    k <= clique::largest(rows, u, v)
+    let mut p: usize = 0;
+    while p < count {
+        if clique_rule(tables::policy(scheme, c, p)) {
+            return clique::largest(rows, u, v);
+        }
+        p += 1;
+    }
+    0
 }
 
 // Kind 6: whether the state of u and v is in the set, and u on that side.
@@ -148,7 +156,7 @@ fn in_state(
     }
 }
 
-// Whether a rule admits accessor v to what owner u has; set has the policies of lower number that do.
+// Whether a rule admits accessor v to what owner u has; set has the policies of lower number that do, size is from clique_size.
 fn rule_admits(
     scheme: &[u8],
     c: Counts,
@@ -157,10 +165,11 @@ fn rule_admits(
     rows: &[u64],
     rule: Rule,
     set: u32,
+    size: usize,
     u: usize,
     v: usize,
 ) -> bool
-    requires { ⌜ Ready (now scheme) c (now network) × Prepared (now scheme) (now network) v (now distances) (now rows) × NextRule (now scheme) (now network) u v set rule × (u < c .members) × (v < c .members) ⌝ }
+    requires { ⌜ Ready (now scheme) c (now network) × Prepared (now scheme) (now network) v (now distances) (now rows) × NextRule (now scheme) (now network) u v set size rule × (u < c .members) × (v < c .members) ⌝ }
     ensures { λ r. ⌜ Decides r (Admits (graphOf (now (scheme .entry)) (now (network .entry))) (policyOfRule (schemeOf (now (scheme .entry)) .policy) rule) u v) ⌝ }
 {
     match rule {
@@ -169,7 +178,7 @@ fn rule_admits(
         Rule::Owner => u == v,
         Rule::Within(k) => distance::within(distances, u, records::wide(k)),
         Rule::Known(k) => known(rows, u, v, records::wide(k)),
-        Rule::Clique(k) => in_clique(rows, u, v, records::wide(k)),
+        Rule::Clique(k) => u == v || records::wide(k) <= size,
         Rule::State { set: states, side } => in_state(scheme, c, network, states, side, u, v),
         Rule::Both { left, right } => {
             tables::offered(set, records::wide(left)) & tables::offered(set, records::wide(right))
@@ -194,11 +203,12 @@ pub fn admitted(
     requires { ⌜ Ready (now scheme) c (now network) × Prepared (now scheme) (now network) v (now distances) (now rows) × (u < c .members) × (v < c .members) × (count ≤ c .policies) ⌝ }
     ensures { λ r. ⌜ Admitted (now (scheme .entry)) (now (network .entry)) u v r count ⌝ }
 {
+    let size = clique_size(scheme, c, rows, u, v, count);
     let mut set: u32 = 0;
     let mut p: usize = 0;
     while p < count {
         let rule = tables::policy(scheme, c, p);
-        if rule_admits(scheme, c, network, distances, rows, rule, set, u, v) {
+        if rule_admits(scheme, c, network, distances, rows, rule, set, size, u, v) {
             set = set | (1u32 << p);
         }
         p += 1;

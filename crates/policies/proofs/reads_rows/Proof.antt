@@ -4,14 +4,14 @@ use borrow.Author.Needs.{needs}
 use native.Mathlib.Omega.{arith}
 use Rattle.model.proofs.Deciding.{said-yes, said-no}
 use Rattle.model.specs.SchemeBytes.{schemeOf}
-use Rattle.policies.specs.Reading.{SomeReadsRows}
+use Rattle.policies.specs.Reading.{ReadsRows, SomePolicy}
 use Rattle.policies.proofs.Reaching.{none-more}
 use Rattle.policies.proofs.reads_rows.Statement.{statement}
 use Rattle.policies.proofs.reads_rows.Tie as tie
 
 -- none of the policies below p reads rows
 abbrev Inv-loop : tie.InvT-loop
-Inv-loop scheme c p₀ p = (SomeReadsRows scheme p → ⊥) × (p ≤ c .policies)
+Inv-loop scheme c p₀ p = (SomePolicy ReadsRows scheme p → ⊥) × (p ≤ c .policies)
 
 abbrev μ-loop : tie.MeasureT-loop
 μ-loop scheme c p₀ p = c .policies - p
@@ -44,7 +44,7 @@ loop-again c =
     let b = c .before .before .before .before .before .before .before .args .scheme .now in
     let i = c .before .before .before .before .before .loop in
     let x = c .before .before .policy in (
-      none-more (x .ensures) (said-no (c .if2 .left) (c .before .row-rule .ensures (schemeOf b .policy))) (i .inv .0),
+      none-more (x .ensures) ReadsRows (said-no (c .if2 .left) (c .before .row-rule .ensures (schemeOf b .policy))) (i .inv .0),
       omega arith,
     )
 

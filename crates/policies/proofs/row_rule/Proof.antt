@@ -1,6 +1,6 @@
 use mathlib.Core.Path.{refl}
-use mathlib.Core.Logic.{inl, inr}
-use Rattle.policies.proofs.Reaching.{no-rows}
+use mathlib.Core.Logic.{inl}
+use Rattle.policies.proofs.Reaching.{rows-by-clique}
 use borrow.Author.Needs.{needs}
 use Rattle.policies.proofs.row_rule.Statement.{statement}
 use Rattle.policies.proofs.row_rule.Tie as tie
@@ -8,17 +8,14 @@ use Rattle.policies.proofs.row_rule.Tie as tie
 enum-told : tie.Need-enum-told
 enum-told c = search needs
 
-enum-told-2 : tie.Need-enum-told-2
-enum-told-2 c = search needs
+clique-rule-requires : tie.Need-clique-rule-requires
+clique-rule-requires c κs = search needs
 
 returns : tie.Need-returns
 returns c = λ lower. rw (c .enum-told .given .1) (c .enum-told .given .0 .0, inl refl)
 
 returns-2 : tie.Need-returns-2
-returns-2 c = λ lower. rw (c .enum-told2 .given .1) (c .enum-told2 .given .0 .0, inr refl)
-
-returns-3 : tie.Need-returns-3
-returns-3 c = no-rows (c .before .args .rule) (c .match .keys3)
+returns-2 c = λ lower. rows-by-clique (c .clique-rule .result) (c .before .before .args .rule) (c .before .match .keys2) lower (c .clique-rule .ensures lower)
 
 pub row-rule-spec : {M : Type 1} → statement M
-row-rule-spec = tie.close (tie.spec enum-told enum-told-2 returns returns-2 returns-3)
+row-rule-spec = tie.close (tie.spec enum-told clique-rule-requires returns returns-2)

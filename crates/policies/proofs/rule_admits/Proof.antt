@@ -1,9 +1,11 @@
 use Prim.Native.Nat.{ℕ, _≤_, _<_}
 use mathlib.Core.Path.{_≡_}
 use mathlib.Core.Bool.{Bool, true, false, _&&_, _||_}
+use mathlib.Core.Logic.{inl}
 use native.Mathlib.Omega.{arith}
 use denote.Ref.{now}
-use lib.Dec.{eqb}
+use lib.Dec.{eqb, leb}
+use borrow.Author.Tests.{eq-eqb}
 use Rattle.model.specs.Bytes.{bit}
 use Rattle.model.specs.Decides.{Decides}
 use Rattle.model.specs.Graph.{Graph}
@@ -15,8 +17,8 @@ use Rattle.tables.specs.declared.Rule.the-variants.{NoOne, Everyone, Owner, Wit
 use Rattle.tables.specs.Rules.{policyOfRule, RuleFits}
 use Rattle.network.specs.Ready.{graphOf}
 use Rattle.network.proofs.Reading.{ready-range}
-use Rattle.clique.proofs.Networks.{network-undirected}
-use Rattle.policies.proofs.Granting.{near-of, known-rows, clique-rows, bit-says}
+use Rattle.policies.proofs.ByKind.{clique-decides}
+use Rattle.policies.proofs.Granting.{near-of, known-rows, size-of, bit-says}
 use borrow.Author.Needs.{needs}
 use Rattle.policies.proofs.rule_admits.Statement.{statement}
 use Rattle.policies.proofs.rule_admits.Tie as tie
@@ -98,12 +100,6 @@ enum-known-rule-3 c = search needs
 wide-requires-3 : tie.Need-wide-requires-3
 wide-requires-3 c κs = search needs
 
-in-clique-requires : tie.Need-in-clique-requires
-in-clique-requires c κs =
-    let s = c .before .before .before .before .before .before .before .before in
-    let k = c .before .before .rule3 .given in
-    omega (arith, small s, s .pre .1 .rows-long, fits s (Clique (k .0 .0)) (k .1))
-
 enum-known-rule-4 : tie.Need-enum-known-rule-4
 enum-known-rule-4 c = search needs
 
@@ -174,29 +170,38 @@ returns-5 c =
 
 returns-6 : tie.Need-returns-6
 returns-6 c =
-    let s = c .before .before .before .before .before .before .before .before .before in
-    let k = c .before .before .before .rule3 .given in
-    let rows = clique-rows (s .pre .2) (s .pre .1) (k .0 .0) (k .1) in
-    told s (c .in-clique .result) (Clique (k .0 .0)) (k .1)
-    (rw (← c .before .wide3 .ensures .0)
-    (c .in-clique .ensures (graph s) rows (network-undirected (now (s .args .scheme)) (now (s .args .network))) (few s) (inside s .0) (inside s .1)))
+    let s = c .before .before .before .before .before .before .before .before in
+    let k = c .before .before .rule3 .given in
+    let u = s .args .u in
+    let v = s .args .v in
+    told s (eqb u v) (Clique (k .0 .0)) (k .1) (rw (eq-eqb u v (c .if1 .taken)) (inl (c .if1 .taken)))
 
 returns-7 : tie.Need-returns-7
 returns-7 c =
+    let s = c .before .before .before .before .before .before .before .before .before in
+    let k = c .before .before .before .rule3 .given in
+    let n = c .before .if1 .left in
+    let (a, b) = fits s (Clique (k .0 .0)) (k .1) in
+    told s (leb (c .wide3 .result) (s .args .size)) (Clique (k .0 .0)) (k .1)
+    (rw (c .wide3 .ensures .0)
+    (clique-decides (graph s) (s .args .u) (s .args .v) (k .0 .0) n (s .args .size) a b (size-of (s .pre .2) (k .0 .0) (k .1) n)))
+
+returns-8 : tie.Need-returns-8
+returns-8 c =
     let s = c .before .before .before .before .before .before .before .before in
     let k = c .before .before .rule4 .given in
     told s (c .in-state .result) (State (k .0 .0) (k .0 .1 .0)) (k .1) (c .in-state .ensures)
 
-returns-8 : tie.Need-returns-8
-returns-8 c =
+returns-9 : tie.Need-returns-9
+returns-9 c =
     let s = c .before .before .before .before .before .before .before .before .before .before .before in
     let k = c .before .before .before .before .before .rule5 .given in
     let l : has s (k .0 .0) ≡ c .before .before .offered .result = cc in
     let r : has s (k .0 .1 .0) ≡ c .offered2 .result = cc in
     told-both s (k .0 .0) (k .0 .1 .0) (c .before .before .offered .result && c .offered2 .result) (k .1) (rw (l, r))
 
-returns-9 : tie.Need-returns-9
-returns-9 c =
+returns-10 : tie.Need-returns-10
+returns-10 c =
     let s = c .before .before .before .before .before .before .before .before .before .before .before in
     let k = c .before .before .before .before .before .rule6 .given in
     let l : has s (k .0 .0) ≡ c .before .before .offered3 .result = cc in
@@ -218,7 +223,6 @@ rule-admits-spec =
     known-requires
     enum-known-rule-3
     wide-requires-3
-    in-clique-requires
     enum-known-rule-4
     in-state-requires
     enum-known-rule-5
@@ -239,4 +243,5 @@ rule-admits-spec =
     returns-6
     returns-7
     returns-8
-    returns-9)
+    returns-9
+    returns-10)

@@ -1,0 +1,4 @@
+pub mod Sums
+pub mod Marking
+pub mod Beginning
+pub mod Expanding

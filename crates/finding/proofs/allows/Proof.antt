@@ -1,0 +1,18 @@
+use borrow.Author.Needs.{needs}
+use Rattle.finding.proofs.allows.Statement.{statement}
+use Rattle.finding.proofs.allows.Tie as tie
+
+setting-requires : tie.Need-setting-requires
+setting-requires c κs = search needs
+
+wide-requires : tie.Need-wide-requires
+wide-requires c κs = search needs
+
+admits-requires : tie.Need-admits-requires
+admits-requires c κs = search needs
+
+returns : tie.Need-returns
+returns c = rw (← (c .before .before .setting .ensures .0), ← (c .before .wide .ensures .0)) (c .admits .ensures)
+
+pub allows-spec : {M : Type 1} → statement M
+allows-spec = tie.close (tie.spec setting-requires wide-requires admits-requires returns)

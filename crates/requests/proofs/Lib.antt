@@ -1,0 +1,5 @@
+pub mod Judged
+pub mod Opening
+pub mod Setting
+pub mod Writing
+pub mod Turning

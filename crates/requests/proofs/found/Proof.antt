@@ -1,0 +1,49 @@
+use Rattle.network.proofs.Reading.{ready-read}
+use borrow.Author.Needs.{needs}
+use Rattle.requests.proofs.found.Statement.{statement}
+use Rattle.requests.proofs.found.Tie as tie
+
+marks-requires : tie.Need-marks-requires
+marks-requires c κs = ready-read (c .before .before .pre .0)
+
+no-distances-requires : tie.Need-no-distances-requires
+no-distances-requires c κs = search needs
+
+no-rows-requires : tie.Need-no-rows-requires
+no-rows-requires c κs = search needs
+
+slice-aggregate-prepare : tie.Need-slice-aggregate-prepare
+slice-aggregate-prepare c = search needs
+
+slice-aggregate-prepare-2 : tie.Need-slice-aggregate-prepare-2
+slice-aggregate-prepare-2 c = search needs
+
+prepare-requires : tie.Need-prepare-requires
+prepare-requires c κs = search needs
+
+slice-aggregate-finds : tie.Need-slice-aggregate-finds
+slice-aggregate-finds c = search needs
+
+slice-aggregate-finds-2 : tie.Need-slice-aggregate-finds-2
+slice-aggregate-finds-2 c = search needs
+
+finds-requires : tie.Need-finds-requires
+finds-requires c κs = search needs
+
+returns : tie.Need-returns
+returns c = search needs
+
+pub found-spec : {M : Type 1} → statement M
+found-spec =
+    tie.close
+    (tie.spec
+    marks-requires
+    no-distances-requires
+    no-rows-requires
+    slice-aggregate-prepare
+    slice-aggregate-prepare-2
+    prepare-requires
+    slice-aggregate-finds
+    slice-aggregate-finds-2
+    finds-requires
+    returns)
