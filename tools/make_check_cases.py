@@ -7,40 +7,16 @@ Its lines, K being its number from 1:
     K valid 1 or 0        only where the scheme is accepted
     K fresh ANSWER SUM    SUM is the Adler-32 sum of the network's bytes afterwards
 """
-import os
-import random
 import sys
 import zlib
-from collections import Counter
 
 sys.dont_write_bytecode = True      # no __pycache__ in the repository
 import reference as ref
-
-MOST_BYTES = 600 * 1000
-FOLDER = os.path.join(os.path.dirname(os.path.abspath(__file__)), '..', 'crates', 'check_cases')
-
-NO_ONE, EVERYONE, OWNER = (0, 0, 0, 0), (1, 0, 0, 0), (2, 0, 0, 0)
+from cases import (NO_ONE, EVERYONE, OWNER, within, known, clique, state, both, either, changed, damaged, part,
+                   random_scheme, accepted_scheme, random_counts, fresh_network, random_network, off_settings, write)
 
 
-def within(k): return (3, k, 0, 0)
-def known(k): return (4, k, 0, 0)
-def clique(k): return (5, k, 0, 0)
-def state(states, k): return (6, k, ref.mask_of(states) % 256, ref.mask_of(states) // 256)
-def both(left, right): return (7, 0, left, right)
-def either(left, right): return (8, 0, left, right)
-
-
-# ---- Bytes with a change
-
-def changed(data, at, value):
-    return data[:at] + bytes([value]) + data[at + 1:]
-
-
-def damaged(rng, data):
-    """One byte of another value."""
-    at = rng.randrange(len(data))
-    return changed(data, at, (data[at] + rng.randrange(1, 256)) % 256)
-
+# ---- Records
 
 def record_places(counts):
     """Where the five records start."""
@@ -77,64 +53,6 @@ def with_policies(policies, search, n=4, states=4, friends=()):
     counts = ref.Counts(n, states, 2, 2, len(policies))
     masks = [search] + [ref.mask_of(range(len(policies)))] * (ref.resources(counts) - 1)
     return ref.build_scheme(counts, {(0, 0, 0): states - 1}, friends, policies, masks)
-
-
-def random_policy(rng, own, states):
-    kind = rng.randrange(9 if own else 7)
-    if kind < 3:
-        return (kind, 0, 0, 0)
-    if kind < 5:
-        return (kind, rng.choice([1, 2, 3, 255, rng.randrange(1, 256)]), 0, 0)
-    if kind == 5:
-        return clique(rng.randrange(2, 6))
-    if kind == 6:
-        return state([q for q in range(states) if rng.randrange(2)], rng.randrange(3))
-    return (kind, 0, rng.randrange(own), rng.randrange(own))
-
-
-def random_scheme(rng, counts):
-    """A scheme that passes answers 1 to 3."""
-    counts = ref.Counts(*counts)
-    moves = {(q, b, a): rng.choice([255, rng.randrange(counts.states)])
-             for q in range(counts.states) for b in (0, 1) for a in range(counts.primitives)}
-    friends = {q for q in range(1, counts.states) if rng.randrange(2)}
-    policies = [random_policy(rng, p, counts.states) for p in range(counts.policies)]
-    masks = [rng.randrange(1, 2 ** counts.policies) & rng.randrange(2 ** counts.policies) or 2 ** (counts.policies - 1)
-             for _ in range(ref.resources(counts))]
-    return ref.build_scheme(counts, moves, friends, policies, masks)
-
-
-def accepted_scheme(rng, counts):
-    while True:
-        scheme = random_scheme(rng, counts)
-        if ref.check(scheme) == 0:
-            return scheme
-
-
-def random_counts(rng):
-    return (rng.randrange(1, 9), rng.randrange(1, 17), rng.randrange(1, 9), rng.randrange(1, 17), rng.randrange(1, 33))
-
-
-# ---- Networks of an accepted scheme
-
-def fresh_network(scheme):
-    return ref.fresh_bytes(ref.read_scheme(scheme)[1])
-
-
-def random_network(rng, scheme):
-    """A valid one."""
-    read = ref.read_scheme(scheme)[1]
-    offered = [[p for p in range(32) if ref.offers(mask, p)] for mask in read.masks]
-    states = read.counts.states
-    pairs = bytes(rng.randrange(states) for _ in range(ref.pair_count(read.counts.members)))
-    return pairs + bytes(rng.choice(choice) for _ in range(read.counts.members) for choice in offered)
-
-
-def off_settings(mask):
-    """Bytes just outside a mask, and bytes that no mask offers: also those that agree modulo 32."""
-    offered = [p for p in range(32) if ref.offers(mask, p)]
-    near = {p + d for p in offered for d in (-1, 1)} - set(offered) - {-1}
-    return sorted(near | {32, 255, min(offered) + 32, min(offered) + 128, max(offered) + 224})
 
 
 # ---- The cases: each (scheme, network, the check's answer that it is meant for)
@@ -430,12 +348,14 @@ GROUPS = [standard_networks, cut_schemes, counts_at_their_ends, bytes_behind, wr
 
 # ---- What is written
 
-def part(data):
-    return len(data).to_bytes(2, 'little') + data
+def given(scheme, network, wanted):
+    return part(scheme) + part(network)
 
 
-def case_lines(number, scheme, network, tally):
+def lines(number, tally, scheme, network, wanted):
     answer, read = ref.read_scheme(scheme)
+    if wanted is not None and answer != wanted:
+        sys.exit('case %d: %d, but %d is meant' % (number, answer, wanted))
     tally['check %d' % answer] += 1
     yield ' '.join(map(str, [number, 'check', answer, *(read.counts if read else ())]))
     if read:
@@ -448,32 +368,5 @@ def case_lines(number, scheme, network, tally):
     yield '%d fresh %d %d' % (number, answer, zlib.adler32(lent))
 
 
-def main():
-    total, given, lines, number = Counter(), [], [], 0
-    for group in GROUPS:
-        rng = random.Random('document 01, ' + group.__name__)
-        tally = Counter()
-        first = number + 1
-        for scheme, network, wanted in group(rng):
-            number += 1
-            if wanted is not None and ref.check(scheme) != wanted:
-                sys.exit('%s, case %d: %d, but %d is meant' % (group.__name__, number, ref.check(scheme), wanted))
-            given.append(part(scheme) + part(network))
-            lines.extend(case_lines(number, scheme, network, tally))
-        total += tally
-        print('%4d to %4d  %-24s %s' % (first, number, group.__name__,
-                                        ', '.join('%s: %d' % entry for entry in sorted(tally.items()))))
-    print('%d cases: %s' % (number, ', '.join('%s: %d' % entry for entry in sorted(total.items()))))
-    stdin = b''.join(given)
-    print('%d bytes in, %d lines out' % (len(stdin), len(lines)))
-    if len(stdin) > MOST_BYTES:
-        sys.exit('too many bytes')
-    os.makedirs(FOLDER, exist_ok=True)
-    with open(os.path.join(FOLDER, 'stdin'), 'wb') as file:
-        file.write(stdin)
-    with open(os.path.join(FOLDER, 'stdout'), 'w') as file:
-        file.write('\n'.join(lines) + '\n')
-
-
 if __name__ == '__main__':
-    main()
+    write('check_cases', GROUPS, given, lines)

@@ -16,11 +16,8 @@ print-start-requires c κs = search needs
 number-requires : tie.Need-number-requires
 number-requires c κs = search needs
 
-wide-requires : tie.Need-wide-requires
-wide-requires c κs = search needs
-
-print-next-requires : tie.Need-print-next-requires
-print-next-requires c κs = search needs
+print-answer-requires : tie.Need-print-answer-requires
+print-answer-requires c κs = search needs
 
 enum-known-reading : tie.Need-enum-known-reading
 enum-known-reading c = search needs
@@ -43,7 +40,7 @@ print-end-requires-2 c κs = search needs
 print-valid-requires : tie.Need-print-valid-requires
 print-valid-requires c κs =
     checked-read _ (c .before .before .before .reading .given .1)
-    (c .before .before .before .before .before .before .before .before .before .before .check .ensures) .1
+    (c .before .before .before .before .before .before .before .before .before .check .ensures) .1
 
 returns-2 : tie.Need-returns-2
 returns-2 c = search needs
@@ -56,8 +53,7 @@ print-check-spec =
     slice-aggregate-print-start
     print-start-requires
     number-requires
-    wide-requires
-    print-next-requires
+    print-answer-requires
     enum-known-reading
     enum-told
     print-end-requires

@@ -1,16 +1,10 @@
 -- `check_cases::run_case` is safe: each part is within its buffer.
-use Prim.Native.Nat.{ℕ, _≤_}
-use mathlib.Core.Path.{_≡_, sym, subst}
+use mathlib.Core.Path.{sym}
 use lib.Seq.{length-take-le}
-use Rattle.check_cases.specs.Parts.{Within}
-use Rattle.check_cases.specs.declared.Part.{Part}
-use Rattle.check_cases.specs.declared.Part.the-variants.{Bytes}
+use Rattle.cases.proofs.Reading.{part-within}
 use borrow.Author.Needs.{needs}
 use Rattle.check_cases.proofs.run_case.Statement.{statement}
 use Rattle.check_cases.proofs.run_case.Tie as tie
-
-bound : {r : Part} {n size : ℕ} → r ≡ Bytes n → Within r size → n ≤ size
-bound {size = size} e h = subst (λ (r : Part). Within r size) e h
 
 read-part-requires : tie.Need-read-part-requires
 read-part-requires c κs = search needs
@@ -47,16 +41,15 @@ returns-2 c = search needs
 
 slice-reshare-prefix-print-case : tie.Need-slice-reshare-prefix-print-case
 slice-reshare-prefix-print-case c =
-    bound (c .before .before .before .before .before .before .before .before .s .given .1)
+    part-within (c .before .before .before .before .before .before .before .before .s .given .1)
     (c .before .before .before .before .before .before .before .before .before .before .before .before .read-part .ensures)
 
 slice-aggregate-print-case : tie.Need-slice-aggregate-print-case
-slice-aggregate-print-case c =
-    sym (length-take-le _ _ (slice-reshare-prefix-print-case (c .before)))
+slice-aggregate-print-case c = sym (length-take-le _ _ (slice-reshare-prefix-print-case (c .before)))
 
 slice-relend-prefix-print-case : tie.Need-slice-relend-prefix-print-case
 slice-relend-prefix-print-case c =
-    bound (c .before .before .n .given .1) (c .before .before .before .before .before .before .read-part2 .ensures)
+    part-within (c .before .before .n .given .1) (c .before .before .before .before .before .before .read-part2 .ensures)
 
 slice-aggregate-print-case-2 : tie.Need-slice-aggregate-print-case-2
 slice-aggregate-print-case-2 c = sym (length-take-le _ _ (slice-relend-prefix-print-case (c .before)))

@@ -1,18 +1,21 @@
--- `check_cases::sum` is safe and ends: both halves of the sum stay below 65521.
-use Prim.Native.Nat.{_≤_, _<_, _-_}
+-- `request_cases::print_places` is safe and ends.
+use Prim.Native.Nat.{_≤_, _-_}
 use borrow.Author.Needs.{needs}
 use lib.ListN.{length}
-use Rattle.check_cases.proofs.sum.Statement.{statement}
-use Rattle.check_cases.proofs.sum.Tie as tie
+use Rattle.request_cases.proofs.print_places.Statement.{statement}
+use Rattle.request_cases.proofs.print_places.Tie as tie
 
 abbrev Inv-loop : tie.InvT-loop
-Inv-loop bytes low₀ high₀ i₀ low high i = (i ≤ length bytes) × (low < 65521) × (high < 65521)
+Inv-loop output i₀ i = i ≤ length output
 
 abbrev μ-loop : tie.MeasureT-loop
-μ-loop bytes low₀ high₀ i₀ low high i = length bytes - i
+μ-loop output i₀ i = length output - i
 
 loop-holds : tie.Need-loop-holds Inv-loop μ-loop
 loop-holds c = search needs
+
+mul-wide : tie.Need-mul-wide Inv-loop μ-loop
+mul-wide c = search needs
 
 shared-slice-read-wide : tie.Need-shared-slice-read-wide Inv-loop μ-loop
 shared-slice-read-wide c = search needs
@@ -20,11 +23,8 @@ shared-slice-read-wide c = search needs
 wide-requires : tie.Need-wide-requires Inv-loop μ-loop
 wide-requires c κs = search needs
 
-add-low : tie.Need-add-low Inv-loop μ-loop
-add-low c = search needs
-
-add-high : tie.Need-add-high Inv-loop μ-loop
-add-high c = search needs
+print-next-requires : tie.Need-print-next-requires Inv-loop μ-loop
+print-next-requires c κs = search needs
 
 add-i : tie.Need-add-i Inv-loop μ-loop
 add-i c = search needs
@@ -35,29 +35,21 @@ loop-less c = search needs
 loop-again : tie.Need-loop-again Inv-loop μ-loop
 loop-again c = search needs
 
-mul-result : tie.Need-mul-result Inv-loop μ-loop
-mul-result c = search needs
-
-add-result : tie.Need-add-result Inv-loop μ-loop
-add-result c = search needs
-
 returns : tie.Need-returns Inv-loop μ-loop
 returns c = search needs
 
-pub sum-spec : {M : Type 1} → statement M
-sum-spec =
+pub print-places-spec : {M : Type 1} → statement M
+print-places-spec =
     tie.close
     (tie.spec
     Inv-loop
     μ-loop
     loop-holds
+    mul-wide
     shared-slice-read-wide
     wide-requires
-    add-low
-    add-high
+    print-next-requires
     add-i
     loop-less
     loop-again
-    mul-result
-    add-result
     returns)

@@ -1,0 +1,170 @@
+// Reads cases from standard input and prints whom their policies admit. A case is a 2-byte length and a scheme's bytes, a
+// 2-byte length and a network's bytes, and a 2-byte count of questions, each an accessor and an owner of 2 bytes each.
+// The scheme has to be accepted, the network to be valid, and the members to be below n: the program stops at others.
+ghost use mathlib.Core.Path.{_≡_};
+ghost use Prim.Native.Nat.{_<_};
+ghost use lib.ListN.{length};
+ghost use Rattle.tables.specs.Read.{MarksOf};
+ghost use Rattle.network.specs.Ready.{Ready};
+use cases::Number;
+use cases::Part;
+use libc::STDIN_FILENO;
+use scheme::Reading;
+use tables::Counts;
+
+// What reading a question finds: accessor and owner, or the end of the input.
+enum Question {
+    Of(usize, usize),
+    End,
+}
+
+fn read_question() -> Question {
+    let mut bytes = [0u8; 4];
+    if io::read_full(STDIN_FILENO, &mut bytes) < 4 {
+        return Question::End;
+    }
+    Question::Of(records::two(&bytes, 0), records::two(&bytes, 2))
+}
+
+// A question's line: the case's number, accessor, owner, and the set of policies that admit.
+fn print_admitted(
+    number: u64,
+    scheme: &[u8],
+    c: Counts,
+    marks: u16,
+    network: &[u8],
+    v: usize,
+    u: usize,
+    distances: &mut [u16],
+    rows: &mut [u64],
+)
+    requires { ⌜ Ready (now scheme) c (now network) × MarksOf (now scheme) (c .states) marks × (v < c .members) × (u < c .members) × (length (now distances) ≡ 256) × (length (now rows) ≡ 1024) ⌝ }
+{
+    policies::prepare(scheme, c, marks, network, v, distances, rows);
+    let set = policies::admitted(scheme, c, network, distances, rows, u, v, c.policies);
+    cases::print_number(number);
+    cases::print_next(v as u64);
+    cases::print_next(u as u64);
+    cases::print_next(set as u64);
+    cases::print_end();
+}
+
+// Reads a question and prints its line; false where there is none or it names nobody.
+fn run_question(
+    number: u64,
+    scheme: &[u8],
+    c: Counts,
+    marks: u16,
+    network: &[u8],
+    distances: &mut [u16],
+    rows: &mut [u64],
+) -> bool
+    requires { ⌜ Ready (now scheme) c (now network) × MarksOf (now scheme) (c .states) marks × (length (now distances) ≡ 256) × (length (now rows) ≡ 1024) ⌝ }
+{
+    let Question::Of(v, u) = read_question() else {
+        return false;
+    };
+    if v >= c.members {
+        return false;
+    }
+    if u >= c.members {
+        return false;
+    }
+    print_admitted(number, scheme, c, marks, network, v, u, distances, rows);
+    true
+}
+
+// Reads so many questions and prints their lines; false where one is missing or names nobody.
+fn run_questions(
+    number: u64,
+    scheme: &[u8],
+    c: Counts,
+    network: &[u8],
+    count: usize,
+    distances: &mut [u16],
+    rows: &mut [u64],
+) -> bool
+    requires { ⌜ Ready (now scheme) c (now network) × (length (now distances) ≡ 256) × (length (now rows) ≡ 1024) ⌝ }
+{
+    let marks = tables::marks(scheme, c);
+    let mut done: usize = 0;
+    while done < count {
+        if !run_question(number, scheme, c, marks, network, distances, rows) {
+            return false;
+        }
+        done += 1;
+    }
+    true
+}
+
+// Reads the questions on a scheme and a network; false where the two or a question do not pass.
+fn run_network(
+    number: u64,
+    scheme: &[u8],
+    network: &[u8],
+    distances: &mut [u16],
+    rows: &mut [u64],
+) -> bool
+    requires { ⌜ (length (now distances) ≡ 256) × (length (now rows) ≡ 1024) ⌝ }
+{
+    let Number::Is(count) = cases::read_number() else {
+        return false;
+    };
+    let reading = scheme::check(scheme);
+    let Reading::Accepted(c) = reading else {
+        return false;
+    };
+    if !network::valid::valid(scheme, c, network) {
+        return false;
+    }
+    run_questions(number, scheme, c, network, count, distances, rows)
+}
+
+// Reads a case and prints its lines; false at the end of the input.
+fn run_case(
+    number: u64,
+    scheme: &mut [u8],
+    network: &mut [u8],
+    distances: &mut [u16],
+    rows: &mut [u64],
+) -> bool
+    requires { ⌜ (length (now distances) ≡ 256) × (length (now rows) ≡ 1024) ⌝ }
+{
+    let Part::Bytes(s) = cases::read_part(scheme) else {
+        return false;
+    };
+    let Part::Bytes(n) = cases::read_part(network) else {
+        return false;
+    };
+    run_network(number, &scheme[..s], &network[..n], distances, rows)
+}
+
+// A proved loop has to end, and nothing says that the input does: the bound is one that no run reaches.
+fn run_cases(scheme: &mut [u8], network: &mut [u8], distances: &mut [u16], rows: &mut [u64])
+    requires { ⌜ (length (now distances) ≡ 256) × (length (now rows) ≡ 1024) ⌝ }
+{
+    let mut number: u64 = 1;
+    while number < 1000000 && run_case(number, scheme, network, distances, rows) {
+        number += 1;
+    }
+}
+
+fn no_distances() -> [u16; 256]
+    ensures { λ r. ⌜ 256 ≡ length r ⌝ }
+{
+    [0; 256]
+}
+
+fn no_rows() -> [u64; 1024]
+    ensures { λ r. ⌜ 1024 ≡ length r ⌝ }
+{
+    [0; 1024]
+}
+
+fn main() {
+    let mut scheme = io::large_buffer();
+    let mut network = io::large_buffer();
+    let mut distances = no_distances();
+    let mut rows = no_rows();
+    run_cases(&mut scheme, &mut network, &mut distances, &mut rows);
+}
