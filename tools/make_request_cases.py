@@ -152,8 +152,8 @@ def walks(rng):
 
 def random_networks(rng):
     for i in range(120):
-        counts = (rng.randrange(1, 13), rng.randrange(2, 17), rng.randrange(1, 9), rng.randrange(1, 17), rng.randrange(1, 33))
-        scheme = accepted_scheme(rng, counts)
+        n, states, primitives = rng.randrange(1, 13), rng.randrange(2, 17), rng.randrange(1, 9)
+        scheme = accepted_scheme(rng, (n, states, primitives, rng.randrange(1, 17), rng.randrange(1, 33)))
         network = random_network(rng, scheme) if i % 3 == 0 else shaped_network(rng, scheme, SHAPES[i % len(SHAPES)])
         yield scheme, network, random_requests(rng, scheme, 24)
 
@@ -198,15 +198,17 @@ def search_by_everyone(scheme):
 
 
 def broken_schemes(rng):
-    """Schemes cut, with a count out of range, with one byte changed, with state 0 marked, with search open to strangers."""
-    for i in range(210):
+    """Schemes that are cut, or have a count out of range, one byte changed, a mark of 2, a mask beyond P, state 0 marked, or
+    search open to strangers."""
+    for i in range(294):
         scheme = ref.standard_scheme(rng.randrange(1, 6)) if i % 2 else walking_scheme(rng, rng.randrange(1, 6))
         network = random_network(rng, scheme)
         at = rng.randrange(4, 10)
         marks = 18 + ref.body_lengths(ref.read_scheme(scheme)[1].counts)[0]
         broken = [scheme[:rng.randrange(len(scheme))],
                   changed(scheme, at, 2 if at == 5 else rng.choice([0, 33, 255]) if at > 5 else 0),
-                  damaged(rng, scheme), changed(scheme, marks, 1), search_by_everyone(scheme)][i % 5]
+                  damaged(rng, scheme), changed(scheme, marks, 2), changed(scheme, len(scheme) - 1, 255),
+                  changed(scheme, marks, 1), search_by_everyone(scheme)][i % 7]
         yield broken, network, random_requests(rng, scheme, 6, odd=0.2)
 
 

@@ -79,7 +79,7 @@ pub fn print_next(x: u64) {
     print_number(x);
 }
 
-// A document's answer, after a space.
+// An answer's number, after a space.
 pub fn print_answer(answer: u8) {
     print_next(wide(answer));
 }

@@ -20,7 +20,7 @@ clique-size-requires : tie.Need-clique-size-requires Inv-loop μ-loop
 clique-size-requires c κs =
     let s = c .before .before .before .before in
     let ready = ready-read (s .pre .0) in
-    (ready, s .pre .1 .rows-long, omega (arith, ready .range), omega (arith, ready .range), s .pre .4)
+    (ready, s .pre .1 .rows-long, omega (arith, ready .range), omega (arith, ready .range), omega arith)
 
 loop-holds : tie.Need-loop-holds Inv-loop μ-loop
 loop-holds c =
@@ -41,7 +41,7 @@ rule-admits-requires c κs =
         below = omega (arith, s .pre .0 .counts .policies);
         at = c .policy .ensures;
         lower = i .inv .0 .admits;
-        sized = sized-by (s .pre .0) (s .pre .1) (c .before .before .before .clique-size .ensures) (s .pre .2) (s .pre .3) (s .pre .4) (i .p) (omega arith);
+        sized = sized-by (s .pre .0) (s .pre .1) (c .before .before .before .clique-size .ensures) (s .pre .2) (s .pre .3) (omega arith) (i .p) (omega arith);
       },
       s .pre .2,
       s .pre .3,
