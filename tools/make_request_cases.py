@@ -37,6 +37,7 @@ def call(function, count=3):
 
 
 CALLS = {
+    16: ('event', ('member', 'member', 'primitive'), {7, 8, 9, 10, 11}, call(ref.event)),
     17: ('set', ('member', 'resource', 'policy'), {7, 12}, call(ref.set_policy)),
     18: ('find', ('member', 'member', 'nothing'), {9}, call(ref.find, 2)),
     19: ('list', ('member', 'member', 'places'), {9, 11, 13}, run_list),
@@ -236,9 +237,37 @@ def large_networks(rng):
     yield scheme, changed(network, len(network) - 1, 5), requests(scheme, n, 2, 1)
 
 
+def session(places):
+    """The requests of document 01's session."""
+    kinds = {name: kind for kind, (name, _, _, _) in CALLS.items()}
+    for text, _ in ref.SESSION:
+        name, *arguments = ref.parsed(text)
+        yield (kinds[name], *arguments, *[places] * (3 - len(arguments)))
+
+
+def opening(scheme):
+    """Every member chooses the last policy that is offered, for every resource."""
+    read = ref.read_scheme(scheme)[1]
+    return [(17, m, r, mask.bit_length() - 1) for m in range(read.counts.members) for r, mask in enumerate(read.masks)]
+
+
+def lists_from_fresh(rng):
+    """The session, and longer lists, from fresh networks: friendships come about by events alone."""
+    scheme = ref.standard_scheme(4)
+    yield scheme, ref.fresh_bytes(ref.read_scheme(scheme)[1]), list(session(4))
+    for i in range(32):
+        n = rng.randrange(2, 6)
+        scheme = walking_scheme(rng, n) if i % 2 else ref.standard_scheme(n)
+        asked = random_requests(rng, scheme, 60, odd=0.02) + opening(scheme)
+        asked += random_requests(rng, scheme, 120, odd=0.02, kinds=[16, 16, 16, 18, 19, 20])
+        asked += random_requests(rng, scheme, 120, odd=0.02)
+        yield scheme, ref.fresh_bytes(ref.read_scheme(scheme)[1]), asked
+
+
 # ---- What is written
 
-GROUPS = [standard_networks, walks, random_networks, ends, outputs, damaged_networks, broken_schemes, large_networks]
+GROUPS = [lists_from_fresh, standard_networks, walks, random_networks, ends, outputs, damaged_networks, broken_schemes,
+          large_networks]
 
 
 def given(scheme, network, requests):

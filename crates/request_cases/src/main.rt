@@ -80,6 +80,7 @@ fn run_request(
     requires { ⌜ length (now output) ≤ 1000 ⌝ }
 {
     match kind {
+        16 => cases::print_answer(requests::event(scheme, network, x, y, z)),
         17 => cases::print_answer(requests::set(scheme, network, x, y, z)),
         18 => cases::print_answer(requests::find(scheme, network, x, y)),
         19 => {

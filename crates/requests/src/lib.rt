@@ -3,13 +3,13 @@ use scheme::Reading;
 use tables::Counts;
 use tables::Resource;
 ghost use mathlib.Core.Path.{_≡_};
-ghost use Prim.Native.Nat.{ℕ, _+_, _<_, _≤_};
+ghost use Prim.Native.Nat.{ℕ, _+_, _<_, _≤_, min, max};
 ghost use lib.ListN.{length, set as setByte};
 ghost use Rattle.model.specs.Answers.{Answers};
 ghost use Rattle.model.specs.Decides.{Decides};
 ghost use Rattle.model.specs.Finding.{Finds};
-ghost use Rattle.model.specs.Network.{settingPlace};
-ghost use Rattle.model.specs.Requests.{set-policy, find as findRequest, view as viewRequest, those};
+ghost use Rattle.model.specs.Network.{pairPlace, settingPlace, held};
+ghost use Rattle.model.specs.Requests.{event as eventRequest, set-policy, next, find as findRequest, view as viewRequest, those};
 ghost use Rattle.model.specs.SchemeBytes.{schemeOf};
 ghost use Rattle.model.specs.Calls.{Called};
 ghost use Rattle.tables.specs.Read.{InRange, MarksOf};
@@ -222,4 +222,56 @@ pub fn list(scheme: &[u8], network: &[u8], v: usize, u: usize, output: &mut [u16
     }
     let marks = tables::marks(scheme, c);
     Listed::Friends(write_friends(scheme, c, marks, network, u, output))
+}
+
+// The next state for the pair of v and u, v using primitive a.
+fn next_state(scheme: &[u8], c: Counts, network: &[u8], v: usize, u: usize, a: usize) -> u8
+    requires { ⌜ Ready (now scheme) c (now network) × (v < c .members) × (u < c .members) × (a < c .primitives) × (v ≡ u → ⊥) ⌝ }
+    ensures { λ r. ⌜ r ≡ next (schemeOf (now (scheme .entry))) (held (schemeOf (now (scheme .entry))) (now (network .entry))) v u a ⌝ }
+{
+    let q = records::wide(network::read::state(scheme, c, network, v, u));
+    let side: usize = if u < v { 1 } else { 0 };
+    tables::next_state(scheme, c, q, side, a)
+}
+
+// Writes the state of the pair of v and u.
+fn move_pair(scheme: &[u8], c: Counts, network: &mut [u8], v: usize, u: usize, q: u8)
+    requires { ⌜ Ready (now scheme) c (now network) × (v < c .members) × (u < c .members) × (v ≡ u → ⊥) ⌝ }
+    ensures { λ k. ⌜ now (network .exit) ≡ setByte (now (network .entry)) (pairPlace (min v u) (max v u)) q ⌝ }
+{
+    let at = if v < u {
+        network::read::pairs(u) + v
+    } else {
+        network::read::pairs(v) + u
+    };
+    network[at] = q;
+}
+
+// Event: v uses primitive a towards u.
+pub fn event(scheme: &[u8], network: &mut [u8], v: usize, u: usize, a: usize) -> u8
+    ensures { λ k. ⌜ Called (now (scheme .entry)) (now (network .entry)) (answered (eventRequest v u a) k) (now (network .exit)) ⌝ }
+{
+    let reading = open(scheme, network);
+    let Reading::Accepted(c) = reading else {
+        return scheme::number(reading);
+    };
+    if v >= c.members {
+        return 6;
+    }
+    if u >= c.members {
+        return 6;
+    }
+    if a >= c.primitives {
+        return 7;
+    }
+    if v == u {
+        return 8;
+    }
+    let q = next_state(scheme, c, network, v, u, a);
+    let refusal = judge(scheme, c, network, v, u, 2 + a, q != 255);
+    if refusal != 0 {
+        return refusal;
+    }
+    move_pair(scheme, c, network, v, u, q);
+    0
 }

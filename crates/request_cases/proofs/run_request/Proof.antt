@@ -6,17 +6,23 @@ use borrow.Author.Needs.{needs}
 use Rattle.request_cases.proofs.run_request.Statement.{statement}
 use Rattle.request_cases.proofs.run_request.Tie as tie
 
-set-requires : tie.Need-set-requires
-set-requires c κs = search needs
+event-requires : tie.Need-event-requires
+event-requires c κs = search needs
 
 print-answer-requires : tie.Need-print-answer-requires
 print-answer-requires c κs = search needs
 
-find-requires : tie.Need-find-requires
-find-requires c κs = search needs
+set-requires : tie.Need-set-requires
+set-requires c κs = search needs
 
 print-answer-requires-2 : tie.Need-print-answer-requires-2
 print-answer-requires-2 c κs = search needs
+
+find-requires : tie.Need-find-requires
+find-requires c κs = search needs
+
+print-answer-requires-3 : tie.Need-print-answer-requires-3
+print-answer-requires-3 c κs = search needs
 
 slice-relend-prefix-run-list : tie.Need-slice-relend-prefix-run-list
 slice-relend-prefix-run-list c = search needs
@@ -30,8 +36,8 @@ run-list-requires c κs = omega (arith, slice-aggregate-run-list c)
 view-requires : tie.Need-view-requires
 view-requires c κs = search needs
 
-print-answer-requires-3 : tie.Need-print-answer-requires-3
-print-answer-requires-3 c κs = search needs
+print-answer-requires-4 : tie.Need-print-answer-requires-4
+print-answer-requires-4 c κs = search needs
 
 same-length : tie.Need-same-length
 same-length c = search needs
@@ -48,45 +54,55 @@ returns-2 c = search needs
 same-length-3 : tie.Need-same-length-3
 same-length-3 c = search needs
 
-same-length-4 : tie.Need-same-length-4
-same-length-4 c = search needs
-
 returns-3 : tie.Need-returns-3
 returns-3 c = search needs
 
-returns-4 : tie.Need-returns-4
-returns-4 c = search needs
+same-length-4 : tie.Need-same-length-4
+same-length-4 c = search needs
 
 same-length-5 : tie.Need-same-length-5
 same-length-5 c = search needs
 
+returns-4 : tie.Need-returns-4
+returns-4 c = search needs
+
 returns-5 : tie.Need-returns-5
 returns-5 c = search needs
 
+same-length-6 : tie.Need-same-length-6
+same-length-6 c = search needs
+
 returns-6 : tie.Need-returns-6
 returns-6 c = search needs
+
+returns-7 : tie.Need-returns-7
+returns-7 c = search needs
 
 pub run-request-spec : {M : Type 1} → statement M
 run-request-spec =
     tie.close
     (tie.spec
-    set-requires
+    event-requires
     print-answer-requires
-    find-requires
+    set-requires
     print-answer-requires-2
+    find-requires
+    print-answer-requires-3
     slice-relend-prefix-run-list
     slice-aggregate-run-list
     run-list-requires
     view-requires
-    print-answer-requires-3
+    print-answer-requires-4
     same-length
     returns
     same-length-2
     returns-2
     same-length-3
-    same-length-4
     returns-3
-    returns-4
+    same-length-4
     same-length-5
+    returns-4
     returns-5
-    returns-6)
+    same-length-6
+    returns-6
+    returns-7)

@@ -1,0 +1,31 @@
+use mathlib.Core.Path.{_∙_}
+use mathlib.Core.Logic.{⊎-elim}
+use native.Mathlib.Omega.{arith}
+use Rattle.network.proofs.Reading.{ready-read}
+use Rattle.requests.proofs.Moving.{greater-side, lesser-side, next-is}
+use borrow.Author.Needs.{needs}
+use Rattle.requests.proofs.next_state.Statement.{statement}
+use Rattle.requests.proofs.next_state.Tie as tie
+
+state-requires : tie.Need-state-requires
+state-requires c κs = search needs
+
+wide-requires : tie.Need-wide-requires
+wide-requires c κs = search needs
+
+next-state-requires : tie.Need-next-state-requires
+next-state-requires c κs =
+    let s = c .before .before .before .before .before in
+    (ready-read (s .pre .0), omega (arith, c .before .wide .ensures .0, c .before .before .state .ensures .1), ⊎-elim (λ w. omega (arith, w)) (λ w. omega (arith, w)) (c .if1 .came), s .pre .3)
+
+returns : tie.Need-returns
+returns c =
+    let s = c .before .before .before .before .before .before in
+    let a = s .args in
+    next-is (a .scheme .now) (a .network .now) (a .v) (a .u) (a .a) _ _ _ (s .pre .4)
+    (c .before .before .wide .ensures .0 ∙ c .before .before .before .state .ensures .0)
+    (⊎-elim (λ w. greater-side (a .v) (a .u) _ (w .0 .taken) (w .1)) (λ w. lesser-side (a .v) (a .u) _ (w .0 .left) (w .1)) (c .before .if1 .came))
+    (c .next-state .ensures)
+
+pub next-state-spec : {M : Type 1} → statement M
+next-state-spec = tie.close (tie.spec state-requires wide-requires next-state-requires returns)

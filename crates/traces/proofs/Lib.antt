@@ -1,0 +1,4 @@
+pub mod Sound
+pub mod Refusing
+pub mod Rows
+pub mod Turning

@@ -1,0 +1,180 @@
+-- One turn of a run, as a trace.
+use Prim.Native.Nat.{ℕ, zero, suc, _+_, _*_, _<_, _≤_, min}
+use mathlib.Core.Path.{_≡_, refl, sym, _∙_, ap}
+use mathlib.Core.List.{List, [], _∷_, _++_}
+use native.Mathlib.Omega.{arith}
+use native.Mathlib.Numerals.{add-one}
+use lib.ListN.{length, getD, take, drop, set, take-append-drop, length-append}
+use lib.Seq.{take-suc-set, drop-at, drop-drop, drop-set-lt, getD-set-same, getD-set-other}
+use denote.Ref.{RefT}
+use Rattle.model.specs.Requests.{Request, event, set-policy, find, view, Turn}
+use Rattle.model.specs.Calls.{Called}
+use Rattle.model.specs.Machine.{requests}
+use Rattle.model.specs.Traces.{Trace, turns, lastBytes, Happens}
+use Rattle.model.proofs.Tracing.{every-trace, every-trace-from}
+use Rattle.requests.specs.Answered.{answered, numberOf, countOf, ListCalled}
+use Rattle.requests.specs.declared.Listed.{Listed}
+use Rattle.traces.specs.Cite.{CallMade}
+use Rattle.traces.specs.Ran.{requestOf, requestAt, asked, rowOf, listsOf, answersOf, writtenOf, Stepped, Turned, Kept, Ran}
+use Rattle.traces.proofs.Sound.{sound}
+use Rattle.traces.proofs.Refusing.{all-refused}
+use Rattle.traces.proofs.Rows.{row-written, front-kept, behind-kept, lists-written, place-kept}
+
+length-take-short : (n : ℕ) (l : List ℕ) → length (take n l) ≤ length l
+length-take-short n l = omega (arith, length-append (take n l) (drop n l), ap length (take-append-drop n l))
+
+ref : List ℕ → RefT (List ℕ)
+ref l = record { ptr = (0, 0); name = 0; now = l }
+
+module _ (b net : List ℕ) (kind x y z k count : ℕ) (row left : List ℕ) where
+  pub stepped-event : (after : List ℕ) (answer : ℕ) → count ≡ 0 → left ≡ row → kind ≡ 0 → k ≡ answer → Called b net (answered (event x y z) answer) after
+      → Stepped b net kind x y z row k count left after
+  unfolding ref
+  stepped-event after answer none same e ek c = rw (e, ek, none, same) ((([], ([], tt)), ref b, ref net, refl, refl, refl, c), omega arith, refl)
+
+  pub stepped-set : (after : List ℕ) (answer : ℕ) → count ≡ 0 → left ≡ row → kind ≡ 1 → k ≡ answer → Called b net (answered (set-policy x y z) answer) after
+      → Stepped b net kind x y z row k count left after
+  unfolding ref
+  stepped-set after answer none same e ek c = rw (e, ek, none, same) ((([], ([], tt)), ref b, ref net, refl, refl, refl, c), omega arith, refl)
+
+  pub stepped-find : (answer : ℕ) → count ≡ 0 → left ≡ row → kind ≡ 2 → k ≡ answer → Called b net (answered (find x y) answer) net
+      → Stepped b net kind x y z row k count left net
+  unfolding ref
+  stepped-find answer none same e ek c = rw (e, ek, none, same) ((([], ([], tt)), ref b, ref net, refl, refl, refl, (refl, c)), omega arith, refl)
+
+  pub stepped-list : (told : Listed) → length row ≡ min z 256 → k ≡ numberOf told → count ≡ countOf told → kind ≡ 3
+      → ListCalled b net x y row told left
+      → Stepped b net kind x y z row k count left net
+  unfolding ref
+  stepped-list told places ek ec e c =
+      let written : List ℕ = take (countOf told) left in
+      let counted : countOf told ≡ length written = c .filled .counted in
+      let stays : drop (countOf told) left ≡ drop (countOf told) row =
+      ap (λ (l : List ℕ). drop (countOf told) l) (c .filled .filled)
+      ∙ drop-at written (drop (length written) row) (countOf told) (sym counted)
+      ∙ ap (λ (i : ℕ). drop i row) (sym counted) in
+      rw (e, ek, ec) (
+        (([], ([], ([], tt))), ref b, ref net, ref row, told, left, refl, refl, places, refl, refl, (refl, c)),
+        omega (arith, length-take-short (countOf told) left),
+        stays,
+      )
+
+  view-of : (n : ℕ) → (n ≡ 0 → ⊥) → (n ≡ 1 → ⊥) → (n ≡ 2 → ⊥) → (n ≡ 3 → ⊥) → requestOf n x y z ≡ view x y z
+  view-of zero p q r s = absurd (p refl)
+  view-of (suc zero) p q r s = absurd (q refl)
+  view-of (suc (suc zero)) p q r s = absurd (r refl)
+  view-of (suc (suc (suc zero))) p q r s = absurd (s refl)
+  view-of (suc (suc (suc (suc n)))) p q r s = refl
+
+  pub stepped-view : (answer : ℕ) → count ≡ 0 → left ≡ row → (kind ≡ 0 → ⊥) → (kind ≡ 1 → ⊥) → (kind ≡ 2 → ⊥) → (kind ≡ 3 → ⊥) → k ≡ answer
+      → Called b net (answered (view x y z) answer) net
+      → Stepped b net kind x y z row k count left net
+  unfolding ref
+  stepped-view answer none same p q r s ek c =
+      rw (view-of kind p q r s, ek, none, same) ((([], ([], tt)), ref b, ref net, refl, refl, refl, (refl, c)), omega arith, refl)
+
+pub turned : (b net encoded : List ℕ) (n : ℕ) (lists : List ℕ) (k count : ℕ) (after row : List ℕ) (size x y z : ℕ)
+    → x ≡ getD encoded (4 * n + 1) 0
+    → y ≡ getD encoded (4 * n + 2) 0
+    → z ≡ getD encoded (4 * n + 3) 0
+    → 256 * n ≤ length lists
+    → length row ≡ length (take size (drop (256 * n) lists))
+    → length row ≤ 256
+    → Stepped b net (getD encoded (4 * n) 0) x y z (take size (drop (256 * n) lists)) k count row after
+    → Turned b net encoded n lists k count (take (256 * n) lists ++ (row ++ drop size (drop (256 * n) lists))) after
+turned b net encoded n lists k count after row size x y z ex ey ez inside same d (h, short, kept) = (
+  rw (row-written lists row (256 * n) size count inside short d, ← ex, ← ey, ← ez) h,
+  front-kept lists row (256 * n) size count inside short,
+  behind-kept lists row (256 * n) size count inside short same kept,
+)
+
+happens-then : (b net : List ℕ) (ts : Trace) (t : Turn) (after : List ℕ) → Happens CallMade b net ts → CallMade b (lastBytes net ts) t after
+    → Happens CallMade b net (ts ++ (t, after) ∷ [])
+happens-then b net [] t after h c = (c, tt)
+happens-then b net ((t', left) ∷ ts) t after (c', h) c = (c', happens-then b left ts t after h c)
+
+last-then : (net : List ℕ) (ts : Trace) (t : Turn) (after : List ℕ) → lastBytes net (ts ++ (t, after) ∷ []) ≡ after
+last-then net [] t after = refl
+last-then net ((t', left) ∷ ts) t after = last-then left ts t after
+
+requests-then : (ts : Trace) (t : Turn) (after : List ℕ) → requests (turns (ts ++ (t, after) ∷ [])) ≡ requests (turns ts) ++ t .request ∷ []
+requests-then [] t after = refl
+requests-then ((t', left) ∷ ts) t after = ap {B = List Request} (λ l. t' .request ∷ l) (requests-then ts t after)
+
+answers-then : (ts : Trace) (t : Turn) (after : List ℕ) → answersOf (turns (ts ++ (t, after) ∷ [])) ≡ answersOf (turns ts) ++ t .answer ∷ []
+answers-then [] t after = refl
+answers-then ((t', left) ∷ ts) t after = ap {B = List ℕ} (λ l. t' .answer ∷ l) (answers-then ts t after)
+
+written-then : (ts : Trace) (t : Turn) (after : List ℕ) → writtenOf (turns (ts ++ (t, after) ∷ [])) ≡ writtenOf (turns ts) ++ t .written ∷ []
+written-then [] t after = refl
+written-then ((t', left) ∷ ts) t after = ap {B = List (List ℕ)} (λ l. t' .written ∷ l) (written-then ts t after)
+
+drop-more : (l l' : List ℕ) (n : ℕ) → drop n l' ≡ drop n l → drop (n + 1) l' ≡ drop (n + 1) l
+drop-more l l' n e = sym (drop-drop 1 n l') ∙ ap (λ (k : List ℕ). drop 1 k) e ∙ drop-drop 1 n l
+
+-- what n turns have done
+pub record SoFar (b before encoded : List ℕ) (n : ℕ) (answers counts lists net : List ℕ) : Type 0 where
+  pub trace : Trace
+  pub asked-of : requests (turns trace) ≡ asked encoded n
+  pub answered : answersOf (turns trace) ≡ take n answers
+  pub written : writtenOf (turns trace) ≡ listsOf counts lists n
+  pub bytes : lastBytes before trace ≡ net
+  pub happened : Happens CallMade b before trace
+
+pub start : (b before encoded answers counts lists : List ℕ) → SoFar b before encoded 0 answers counts lists before
+unfolding asked listsOf
+start b before encoded answers counts lists =
+    record { trace = []; asked-of = refl; answered = refl; written = refl; bytes = refl; happened = tt }
+
+pub start-kept : (answers counts lists : List ℕ) → Kept 0 answers counts lists answers counts lists
+start-kept answers counts lists = record { answers-kept = refl; counts-kept = refl; places-kept = λ k out. refl }
+
+module _ (b before encoded answers counts lists net : List ℕ) (n : ℕ) where
+  pub then : (k count : ℕ) (left after : List ℕ) → n < length answers → n < length counts → 256 * n ≤ length lists → length left ≡ length lists
+      → SoFar b before encoded n answers counts lists net
+      → Turned b net encoded n lists k count left after
+      → SoFar b before encoded (n + 1) (set answers n k) (set counts n count) left after
+  unfolding asked
+  then k count left after a c l m s (h, e, f) =
+      let t : Turn = record { request = requestAt encoded n; answer = k; written = take count (rowOf left n) } in
+      rw add-one
+      (record {
+        trace = s .trace ++ (t, after) ∷ [];
+        asked-of = requests-then (s .trace) t after ∙ ap {B = List Request} (λ r. r ++ t .request ∷ []) (s .asked-of);
+        answered = answers-then (s .trace) t after ∙ rw (s .answered) (sym (take-suc-set answers n k a));
+        written = written-then (s .trace) t after ∙ rw (s .written) (sym (lists-written counts lists left n count c l m e));
+        bytes = last-then before (s .trace) t after;
+        happened = happens-then b before (s .trace) t after (s .happened) (rw (s .bytes) h);
+      })
+
+-- a turn writes one answer, one count and one list
+pub then-kept : (n k count : ℕ) (answers₀ counts₀ lists₀ answers counts lists left : List ℕ) → n < length counts
+    → Kept n answers₀ counts₀ lists₀ answers counts lists
+    → take (256 * n) left ≡ take (256 * n) lists
+    → drop (256 * n + count) left ≡ drop (256 * n + count) lists
+    → Kept (n + 1) answers₀ counts₀ lists₀ (set answers n k) (set counts n count) left
+then-kept n k count answers₀ counts₀ lists₀ answers counts lists left c s e f = record {
+  answers-kept = drop-set-lt (n + 1) answers n k (omega arith) ∙ drop-more answers₀ answers n (s .answers-kept);
+  counts-kept = drop-set-lt (n + 1) counts n count (omega arith) ∙ drop-more counts₀ counts n (s .counts-kept);
+  places-kept = λ i out.
+      place-kept lists left n count i (λ p. rw (getD-set-same counts n count 0 c) at (out n (omega arith) p)) e f
+      ∙ s .places-kept i (λ m b p. rw (getD-set-other counts n m count 0 (λ q. omega arith)) at (out m (omega arith) p));
+}
+
+pub ended-kept : (n total : ℕ) (answers₀ counts₀ lists₀ answers counts lists : List ℕ) → n ≡ total → Kept n answers₀ counts₀ lists₀ answers counts lists
+    → Kept total answers₀ counts₀ lists₀ answers counts lists
+ended-kept n total answers₀ counts₀ lists₀ answers counts lists e k = rw e at k
+
+pub ended : (b before encoded answers counts lists net : List ℕ) (n total : ℕ) → n ≡ total → SoFar b before encoded n answers counts lists net
+    → Ran b before encoded total answers counts lists net
+ended b before encoded answers counts lists net n total e s = rw (← e) (record {
+  trace = s .trace;
+  asked-of = s .asked-of;
+  answered = s .answered;
+  written = s .written;
+  bytes = s .bytes;
+  happened = s .happened;
+  from-fresh = λ a f. every-trace CallMade sound b before (s .trace) a f (s .happened);
+  from-valid = λ a v. every-trace-from CallMade sound b before (s .trace) a v (s .happened);
+  refused = λ k n r. all-refused b before (s .trace) k n r (s .happened);
+})

@@ -1,0 +1,2 @@
+pub mod Cite
+pub mod Ran

@@ -1,0 +1,89 @@
+-- A run over encoded requests: four numbers each, the kind and three more.
+use Prim.Native.Nat.{ℕ, zero, suc, _+_, _*_, _/_, _<_, _≤_, min}
+use mathlib.Core.Path.{_≡_}
+use mathlib.Core.List.{List, [], _∷_, _++_}
+use lib.ListN.{length, getD, take, drop}
+use Rattle.model.specs.Answers.{Answers}
+use Rattle.model.specs.SchemeBytes.{schemeOf, Accepted}
+use Rattle.model.specs.Network.{fresh, held, Valid}
+use Rattle.model.specs.Requests.{Request, event, set-policy, find, list, view, Turn}
+use Rattle.model.specs.Calls.{Fresh}
+use Rattle.model.specs.Machine.{requests}
+use Rattle.model.specs.Traces.{Trace, turns, lastBytes, Matches, Happens}
+use Rattle.requests.specs.Opened.{openNeeds}
+use Rattle.traces.specs.Cite.{CallOf, CallMade}
+
+-- 0 event, 1 set, 2 find, 3 list, which is lent z of its 256 places, all where z is more; any other number view
+abbrev pub requestOf : ℕ → ℕ → ℕ → ℕ → Request
+requestOf zero x y z = event x y z
+requestOf (suc zero) x y z = set-policy x y z
+requestOf (suc (suc zero)) x y z = find x y
+requestOf (suc (suc (suc zero))) x y z = list x y (min z 256)
+requestOf (suc (suc (suc (suc k)))) x y z = view x y z
+
+-- request n
+abbrev pub requestAt : List ℕ → ℕ → Request
+requestAt l n = requestOf (getD l (4 * n) 0) (getD l (4 * n + 1) 0) (getD l (4 * n + 2) 0) (getD l (4 * n + 3) 0)
+
+-- the first n requests
+unfoldable pub asked : List ℕ → ℕ → List Request
+asked l zero = []
+asked l (suc n) = asked l n ++ requestAt l n ∷ []
+
+-- the nth 256 places
+abbrev pub rowOf : List ℕ → ℕ → List ℕ
+rowOf lists n = take 256 (drop (256 * n) lists)
+
+-- the first n lists: each stands at the front of its places, as many as counted
+unfoldable pub listsOf : List ℕ → List ℕ → ℕ → List (List ℕ)
+listsOf counts lists zero = []
+listsOf counts lists (suc n) = listsOf counts lists n ++ take (getD counts n 0) (rowOf lists n) ∷ []
+
+abbrev pub answersOf : List Turn → List ℕ
+answersOf [] = []
+answersOf (t ∷ ts) = t .answer ∷ answersOf ts
+
+abbrev pub writtenOf : List Turn → List (List ℕ)
+writtenOf [] = []
+writtenOf (t ∷ ts) = t .written ∷ writtenOf ts
+
+-- one call: its answer, a list of as many as counted at the front of the row, and what stood behind it
+abbrev pub Stepped : List ℕ → List ℕ → ℕ → ℕ → ℕ → ℕ → List ℕ → ℕ → ℕ → List ℕ → List ℕ → Type 0
+Stepped b net kind x y z row answer count left after =
+    CallOf b net (requestOf kind x y z) answer (take count left) after
+    × (count ≤ length left)
+    × (drop count left ≡ drop count row)
+
+-- request n: its list stands at the front of the nth places, and all other places are as they were
+abbrev pub Turned : List ℕ → List ℕ → List ℕ → ℕ → List ℕ → ℕ → ℕ → List ℕ → List ℕ → Type 0
+Turned b net encoded n lists answer count left after =
+    CallOf b net (requestAt encoded n) answer (take count (rowOf left n)) after
+    × (take (256 * n) left ≡ take (256 * n) lists)
+    × (drop (256 * n + count) left ≡ drop (256 * n + count) lists)
+
+-- for how many requests there is room
+abbrev pub fitting : List ℕ → List ℕ → List ℕ → List ℕ → ℕ
+fitting encoded answers counts lists = min (min (length encoded / 4) (length answers)) (min (length counts) (length lists / 256))
+
+-- every turn is refused with number k, writes nothing and leaves the network as it was
+abbrev pub AllRefused : ℕ → List ℕ → Trace → Type 0
+AllRefused k net [] = Unit {0}
+AllRefused k net ((t, after) ∷ ts) = (t .answer ≡ k) × (t .written ≡ []) × (after ≡ net) × AllRefused k net ts
+
+-- behind the nth answer and count nothing is written, nor in a place outside the lists
+pub record Kept (n : ℕ) (answers counts lists answers' counts' lists' : List ℕ) : Type 0 where
+  pub answers-kept : drop n answers' ≡ drop n answers
+  pub counts-kept : drop n counts' ≡ drop n counts
+  pub places-kept : (k : ℕ) → ((m : ℕ) → m < n → 256 * m ≤ k → 256 * m + getD counts' m 0 ≤ k) → getD lists' k 0 ≡ getD lists k 0
+
+-- n encoded requests were called: answers, lists and network are the plain machine's, or all one refusal's
+pub record Ran (b before encoded : List ℕ) (n : ℕ) (answers counts lists net : List ℕ) : Type 0 where
+  pub trace : Trace
+  pub asked-of : requests (turns trace) ≡ asked encoded n
+  pub answered : answersOf (turns trace) ≡ take n answers
+  pub written : writtenOf (turns trace) ≡ listsOf counts lists n
+  pub bytes : lastBytes before trace ≡ net
+  pub happened : Happens CallMade b before trace
+  pub from-fresh : Accepted b → Fresh b before → Matches (schemeOf b) (fresh (schemeOf b)) trace
+  pub from-valid : Accepted b → Valid (schemeOf b) before → Matches (schemeOf b) (held (schemeOf b) before) trace
+  pub refused : (k : ℕ) → (k ≡ 0 → ⊥) → Answers (openNeeds b before) k → AllRefused k before trace

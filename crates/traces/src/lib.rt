@@ -1,0 +1,143 @@
+// The claims about every list of calls, and a run of one.
+use requests::Listed;
+ghost use mathlib.Core.Path.{_≡_};
+ghost use Prim.Native.Nat.{min, _+_, _*_, _≤_};
+ghost use lib.ListN.{length};
+ghost use Rattle.model.specs.Claims.{OneAnswer};
+ghost use Rattle.model.specs.Traces.{EveryTrace, RunsReplayed, ViewGranted, ItemsUnseen, EveryTraceFrom};
+ghost use Rattle.model.specs.Session.{SixteenLines};
+ghost use Rattle.requests.specs.Answered.{numberOf, countOf};
+ghost use Rattle.traces.specs.Cite.{CallMade};
+ghost use Rattle.traces.specs.Ran.{Stepped, Turned, fitting, Ran, Kept};
+
+// Each claim is a contract of a function that does nothing, so that none can go missing.
+pub fn claims()
+    ensures every_trace { λ r. ⌜ EveryTrace CallMade ⌝ }
+    ensures runs_replayed { λ r. ⌜ RunsReplayed CallMade ⌝ }
+    ensures view_granted { λ r. ⌜ ViewGranted CallMade ⌝ }
+    ensures items_unseen { λ r. ⌜ ItemsUnseen CallMade ⌝ }
+    ensures every_trace_from { λ r. ⌜ EveryTraceFrom CallMade ⌝ }
+    ensures one_answer { λ r. ⌜ OneAnswer ⌝ }
+    ensures sixteen_lines { λ r. ⌜ SixteenLines ⌝ }
+{}
+
+// A call's answer, and how many it wrote.
+struct Reply {
+    answer: u8,
+    count: usize,
+}
+
+fn nothing_written(number: u8) -> Reply
+    ensures { λ r. ⌜ (r .answer ≡ number) × (r .count ≡ 0) ⌝ }
+{
+    Reply {
+        answer: number,
+        count: 0,
+    }
+}
+
+fn some_written(listed: Listed) -> Reply
+    ensures { λ r. ⌜ (r .answer ≡ numberOf listed) × (r .count ≡ countOf listed) ⌝ }
+{
+    match listed {
+        Listed::Friends(count) => Reply {
+            answer: 0,
+            count: count,
+        },
+        Listed::Refused(number) => Reply {
+            answer: number,
+            count: 0,
+        },
+    }
+}
+
+// One request.
+fn step(
+    scheme: &[u8],
+    network: &mut [u8],
+    kind: u16,
+    x: usize,
+    y: usize,
+    z: usize,
+    row: &mut [u16],
+) -> Reply
+    requires { ⌜ length (now row) ≡ min z 256 ⌝ }
+    ensures { λ r. ⌜ Stepped (now (scheme .entry)) (now (network .entry)) kind x y z (now (row .entry)) (r .answer) (r .count) (now (row .exit)) (now (network .exit)) ⌝ }
+{
+    if kind == 0 {
+        return nothing_written(requests::event(scheme, network, x, y, z));
+    }
+    if kind == 1 {
+        return nothing_written(requests::set(scheme, network, x, y, z));
+    }
+    if kind == 2 {
+        return nothing_written(requests::find(scheme, network, x, y));
+    }
+    if kind == 3 {
+        return some_written(requests::list(scheme, network, x, y, row));
+    }
+    nothing_written(requests::view(scheme, network, x, y, z))
+}
+
+fn wide(x: u16) -> usize
+    ensures { λ r. ⌜ r ≡ x ⌝ }
+{
+    x as usize
+}
+
+fn least(x: usize, y: usize) -> usize
+    ensures { λ r. ⌜ r ≡ min x y ⌝ }
+{
+    if x < y {
+        return x;
+    }
+    y
+}
+
+// Request n of the encoded ones.
+fn turn(scheme: &[u8], network: &mut [u8], encoded: &[u16], n: usize, lists: &mut [u16]) -> Reply
+    requires { ⌜ (4 * n + 4 ≤ length (now encoded)) × (256 * n + 256 ≤ length (now lists)) ⌝ }
+    ensures { λ r. ⌜ Turned (now (scheme .entry)) (now (network .entry)) (now (encoded .entry)) n (now (lists .entry)) (r .answer) (r .count) (now (lists .exit)) (now (network .exit)) ⌝ }
+{
+    let kind = encoded[4 * n];
+    let x = wide(encoded[4 * n + 1]);
+    let y = wide(encoded[4 * n + 2]);
+    let z = wide(encoded[4 * n + 3]);
+    let start = 256 * n;
+    let end = start + least(z, 256);
+    step(scheme, network, kind, x, y, z, &mut lists[start..end])
+}
+
+// How many requests there is room for: an answer, a count and 256 places for each.
+fn room(encoded: &[u16], answers: &[u8], counts: &[usize], lists: &[u16]) -> usize
+    ensures { λ r. ⌜ r ≡ fitting (now (encoded .entry)) (now (answers .entry)) (now (counts .entry)) (now (lists .entry)) ⌝ }
+{
+    least(
+        least(encoded.len() / 4, answers.len()),
+        least(counts.len(), lists.len() / 256),
+    )
+}
+
+// Calls as many of the requests as there is room for; how many.
+pub fn run(
+    scheme: &[u8],
+    network: &mut [u8],
+    encoded: &[u16],
+    answers: &mut [u8],
+    counts: &mut [usize],
+    lists: &mut [u16],
+) -> usize
+    ensures many { λ r. ⌜ r ≡ fitting (now (encoded .entry)) (now (answers .entry)) (now (counts .entry)) (now (lists .entry)) ⌝ }
+    ensures ran { λ r. ⌜ Ran (now (scheme .entry)) (now (network .entry)) (now (encoded .entry)) r (now (answers .exit)) (now (counts .exit)) (now (lists .exit)) (now (network .exit)) ⌝ }
+    ensures kept { λ r. ⌜ Kept r (now (answers .entry)) (now (counts .entry)) (now (lists .entry)) (now (answers .exit)) (now (counts .exit)) (now (lists .exit)) ⌝ }
+{
+    let total = room(encoded, answers, counts, lists);
+    let mut n: usize = 0;
+    while n < total {
+        let reply = turn(scheme, network, encoded, n, lists);
+        answers[n] = reply.answer;
+        counts[n] = reply.count;
+        n += 1;
+    }
+    total
+}
