@@ -3,8 +3,6 @@ use Prim.Native.Nat.{ℕ, _+_, _*_}
 use mathlib.Core.Path.{_≡_, refl, sym, _∙_}
 use mathlib.Core.Bool.{Bool, true, false, _&&_, not}
 use mathlib.Core.List.{List, [], _∷_}
-use mathlib.Core.Logic.{inl}
-use native.Mathlib.Omega.{arith}
 use borrow.Author.Tests.{eqb-true}
 use lib.Dec.{eqb}
 use lib.ListN.{getD}
@@ -14,9 +12,8 @@ use Rattle.model.specs.Scheme.{lowestFrom}
 use Rattle.model.specs.SchemeBytes.{schemeOf}
 use Rattle.model.specs.Network.{fresh, pairPlace, held, world}
 use Rattle.model.specs.Requests.{Request, event, set-policy, find, list, view, writes, those, put, granted}
-use Rattle.model.specs.Log.{RequestAt}
 use Rattle.model.specs.Standard.{standard, standardBytes}
-use Rattle.model.specs.Examples.{small, joins, Admission, AllAdmissions, admissions, four, Judgement, AllJudged, judgements, Effects, freshBytes, Layout, log, LogRead}
+use Rattle.model.specs.Examples.{small, joins, Admission, AllAdmissions, admissions, four, Judgement, AllJudged, judgements, Effects, freshBytes, Layout}
 use Rattle.model.proofs.Computing.{some, every, among, isWithin, friendOfAll, allFriends, someList, isClique, onSide, admits, stands, begins, goes, reached, closed, found, sure, finds, allows, first, tests, asks}
 use Rattle.model.proofs.Deciding.{Says, is-true, is-eq, is-lt, conj, negated, every-holds, is-admitted, Inside}
 use Rattle.model.proofs.Places.{pair-before}
@@ -104,25 +101,4 @@ layout = record {
     settings = λ m r a b. eqb-true (getD freshBytes (6 + (m * 9 + r)) 0) (fresh (schemeOf (standardBytes 4)) .setting m r) (every-holds _ 9 (every-holds _ 4 settings-fresh m a) r b);
   };
   changed = refl;
-}
-
--- a record of another length is no request
-no-request : (q : Request) → RequestAt log 42 q → ⊥
-no-request (event v u a) h = omega (arith, h .0 .2)
-no-request (set-policy u r p) h = omega (arith, h .0 .2)
-no-request (find v u) h = omega (arith, h .0 .2)
-no-request (list v u places) h = omega (arith, h .0 .2)
-no-request (view v u o) h = omega (arith, h .0 .0)
-
-pub log-read : LogRead
-log-read = record {
-  first = ((omega arith, refl, refl), refl, refl, refl);
-  second = ((omega arith, refl, refl), refl, refl, refl);
-  third = ((omega arith, refl, refl), refl, refl);
-  fourth = λ places. ((omega arith, refl, refl), refl, refl);
-  fifth = ((omega arith, refl, refl), refl, refl, refl);
-  cut = inl ((λ h. no-request (h .0) (h .1)), refl);
-  stays = refl;
-  not-ended = λ h. omega arith;
-  ended = omega arith;
 }

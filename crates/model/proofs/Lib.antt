@@ -9,6 +9,7 @@ pub mod Counting
 pub mod Decoding
 pub mod Held
 pub mod Exemplified
+pub mod Logging
 pub mod StandardRead
 pub mod Cliques
 pub mod Sets

@@ -10,7 +10,7 @@ use Rattle.model.specs.Graph.{Graph}
 use Rattle.model.specs.Policies.{Policy, known, clique, within, state, both, either, owner-only, no-one, everyone, any-side, owner-lesser, owner-greater, Admits}
 use Rattle.model.specs.Network.{Maps, graphOf}
 use Rattle.model.specs.Requests.{Request, event, set-policy, find, list, view, needs, writes, does, granted}
-use Rattle.model.specs.Log.{Ended, RequestAt, recordNeeds, placeAfter}
+use Rattle.model.specs.Log.{Outcome, ended, refused, request, NextAt, placeAfter}
 use Rattle.model.specs.Calls.{Fresh, puts}
 use Rattle.model.specs.Standard.{standard, standardBytes}
 
@@ -175,14 +175,43 @@ log =
     ∷ 5 ∷ 0 ∷ 20 ∷ 0 ∷ 5 ∷ 0 ∷ 6 ∷ 0
     ∷ []
 
--- read from its beginning, each record at the place after the one before it; the sixth gives 14, and there its place stays
-pub record LogRead : Type 0 where
-  pub first : RequestAt log 0 (event 256 3 2)
-  pub second : RequestAt log (placeAfter log 0 0) (set-policy 2 7 12)
-  pub third : RequestAt log (placeAfter log 9 0) (find 1 2)
-  pub fourth : (places : ℕ) → RequestAt log (placeAfter log 17 0) (list 3 4 places)
-  pub fifth : RequestAt log (placeAfter log 25 0) (view 5 6 1)
-  pub cut : Answers (recordNeeds log (placeAfter log 33 0)) 14
-  pub stays : placeAfter log 42 14 ≡ 42
-  pub not-ended : Ended log 42 → ⊥
-  pub ended : Ended log 50
+-- records that are refused: cut before its kind; a find with a byte too many; a view's body under kind 21; a find's under 18 + 256
+abbrev pub cutHead : List ℕ
+cutHead = 4 ∷ 0 ∷ []
+
+abbrev pub tooLong : List ℕ
+tooLong = 5 ∷ 0 ∷ 18 ∷ 0 ∷ 1 ∷ 0 ∷ 2 ∷ 0 ∷ 0 ∷ []
+
+abbrev pub kind21 : List ℕ
+kind21 = 5 ∷ 0 ∷ 21 ∷ 0 ∷ 5 ∷ 0 ∷ 6 ∷ 0 ∷ 1 ∷ []
+
+abbrev pub kind274 : List ℕ
+kind274 = 4 ∷ 0 ∷ 18 ∷ 1 ∷ 1 ∷ 0 ∷ 2 ∷ 0 ∷ []
+
+-- a log, a place, what the reader says there, and its place afterwards
+abbrev pub Reading : Type 0
+Reading = List ℕ × ℕ × Outcome × ℕ
+
+abbrev pub AllRead : List Reading → Type 0
+AllRead [] = Unit {0}
+AllRead ((b, place, says, after) ∷ rows) = NextAt b place says × (placeAfter b place says ≡ after) × AllRead rows
+
+abbrev pub readings : List Reading
+readings =
+    -- each record at the place after the one before it; the sixth is cut, and there the place stays
+    (log, 0, request (event 256 3 2), 9)
+    ∷ (log, 9, request (set-policy 2 7 12), 17)
+    ∷ (log, 17, request (find 1 2), 25)
+    ∷ (log, 25, request (list 3 4 256), 33)
+    ∷ (log, 33, request (view 5 6 1), 42)
+    ∷ (log, 42, refused 14, 42)
+    -- no bytes left, and beyond the end
+    ∷ (log, 50, ended, 50)
+    ∷ (log, 60, ended, 60)
+    ∷ ([], 0, ended, 0)
+    -- 14
+    ∷ (cutHead, 0, refused 14, 0)
+    ∷ (tooLong, 0, refused 14, 0)
+    ∷ (kind21, 0, refused 14, 0)
+    ∷ (kind274, 0, refused 14, 0)
+    ∷ []

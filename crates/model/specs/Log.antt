@@ -1,12 +1,20 @@
 -- A log's records (document 01, "Next log record").
-use Prim.Native.Nat.{ℕ, _+_, _≤_, _<_}
+use Prim.Native.Nat.{ℕ, _+_, _≤_}
 use mathlib.Core.Path.{_≡_}
 use mathlib.Core.List.{List, [], _∷_}
-use mathlib.Core.Logic.{_⊎_}
 use lib.ListN.{length}
-use Rattle.model.specs.Answers.{Requirement}
+use Rattle.model.specs.Answers.{Requirement, Answers}
 use Rattle.model.specs.Bytes.{byte, two, RecordAt}
-use Rattle.model.specs.Requests.{Request, event, set-policy, find, list, view, granted}
+use Rattle.model.specs.Requests.{Request, event, set-policy, find, list, view}
+
+-- what the log reader says
+pub data Outcome : Type 0 where
+  -- the log has ended
+  ended : Outcome
+  -- the next record is refused, with this number
+  refused : (number : ℕ) → Outcome
+  -- the next record holds this request
+  request : (q : Request) → Outcome
 
 module _ (log : List ℕ) where
   -- no bytes are left at the place, or it is beyond the log's end
@@ -25,6 +33,14 @@ module _ (log : List ℕ) where
   abbrev pub recordNeeds : ℕ → List Requirement
   recordNeeds k = (14, (q : Request) × RequestAt k q) ∷ []
 
-  -- the place afterwards: past the record for a request; after a 14 unchanged
-  abbrev pub placeAfter : ℕ → ℕ → ℕ
-  placeAfter k answer = granted answer (k + 4 + two log k) k
+  -- what the reader says at k: one outcome, whatever the log and the place
+  abbrev pub NextAt : ℕ → Outcome → Type 0
+  NextAt k ended = Ended k
+  NextAt k (refused number) = (Ended k → ⊥) × Answers (recordNeeds k) number × (1 ≤ number)
+  NextAt k (request q) = (Ended k → ⊥) × RequestAt k q
+
+  -- its place afterwards: past the record for a request; at the end, and after a 14, unchanged
+  abbrev pub placeAfter : ℕ → Outcome → ℕ
+  placeAfter k ended = k
+  placeAfter k (refused number) = k
+  placeAfter k (request q) = k + 4 + two log k

@@ -1,0 +1,85 @@
+// The log reader (document 01, "Next log record").
+ghost use mathlib.Core.Path.{_≡_};
+ghost use Rattle.log.specs.Read.{sizeOf, Says, Read};
+
+// What the log reader answers: the request of the next record, 14, or that the log has ended.
+pub enum Answer {
+    Event(usize, usize, usize),
+    Set(usize, usize, usize),
+    Find(usize, usize),
+    List(usize, usize),
+    View(usize, usize, usize),
+    Refused,
+    Ended,
+}
+
+// An answer, and the place afterwards.
+pub struct Step {
+    pub answer: Answer,
+    pub place: usize,
+}
+
+// What stands at a place of the log.
+fn answer_at(log: &[u8], place: usize) -> Answer
+    ensures { λ r. ⌜ Says (now (log .entry)) place r ⌝ }
+{
+    if log.len() <= place {
+        return Answer::Ended;
+    }
+    if records::record_at(log, place, 16, 5) {
+        let v = records::two(log, place + 4);
+        let u = records::two(log, place + 6);
+        let a = records::wide(log[place + 8]);
+        return Answer::Event(v, u, a);
+    }
+    if records::record_at(log, place, 17, 4) {
+        let u = records::two(log, place + 4);
+        let r = records::wide(log[place + 6]);
+        let p = records::wide(log[place + 7]);
+        return Answer::Set(u, r, p);
+    }
+    if records::record_at(log, place, 18, 4) {
+        let v = records::two(log, place + 4);
+        let u = records::two(log, place + 6);
+        return Answer::Find(v, u);
+    }
+    if records::record_at(log, place, 19, 4) {
+        let v = records::two(log, place + 4);
+        let u = records::two(log, place + 6);
+        return Answer::List(v, u);
+    }
+    if records::record_at(log, place, 20, 5) {
+        let v = records::two(log, place + 4);
+        let u = records::two(log, place + 6);
+        let o = records::wide(log[place + 8]);
+        return Answer::View(v, u, o);
+    }
+    Answer::Refused
+}
+
+// How many bytes the reader moves: those of a request's record; at the end, and after a 14, none.
+fn size(answer: Answer) -> usize
+    ensures { λ r. ⌜ r ≡ sizeOf answer ⌝ }
+{
+    match answer {
+        Answer::Event(_, _, _) => 9,
+        Answer::Set(_, _, _) => 8,
+        Answer::Find(_, _) => 8,
+        Answer::List(_, _) => 8,
+        Answer::View(_, _, _) => 9,
+        Answer::Refused => 0,
+        Answer::Ended => 0,
+    }
+}
+
+// The next record at a place of the log, and the place afterwards.
+pub fn read(log: &[u8], place: usize) -> Step
+    ensures { λ r. ⌜ Read (now (log .entry)) place (r .answer) (r .place) ⌝ }
+{
+    let answer = answer_at(log, place);
+    let after = place + size(answer);
+    Step {
+        answer,
+        place: after,
+    }
+}
