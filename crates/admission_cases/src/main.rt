@@ -42,11 +42,11 @@ fn print_admitted(
 {
     policies::prepare(scheme, c, marks, network, v, distances, rows);
     let set = policies::admitted(scheme, c, network, distances, rows, u, v, c.policies);
-    cases::print_number(number);
-    cases::print_next(v as u64);
-    cases::print_next(u as u64);
-    cases::print_next(set as u64);
-    cases::print_end();
+    printing::number(number);
+    printing::next(v as u64);
+    printing::next(u as u64);
+    printing::next(set as u64);
+    printing::end();
 }
 
 // Reads a question and prints its line; false where there is none or it names nobody.

@@ -1,11 +1,10 @@
-// What the programs that run stored cases share: reading a case from standard input and printing its lines.
+// What the programs that run stored cases share: reading a case from standard input, and a sum of bytes.
 ghost use mathlib.Core.Path.{_≡_};
 ghost use Prim.Native.Nat.{_<_};
 ghost use lib.ListN.{length};
 ghost use Rattle.cases.specs.Parts.{Small, Within};
 ghost use Rattle.cases.specs.Sums.{adler};
 use libc::STDIN_FILENO;
-use libc::STDOUT_FILENO;
 
 // What reading a 2-byte number finds: the number, or the end of the input.
 pub enum Number {
@@ -63,27 +62,4 @@ pub fn sum(bytes: &[u8]) -> u64
         i += 1;
     }
     high * 65536 + low
-}
-
-pub fn print_text(text: &[u8]) {
-    io::write_all(STDOUT_FILENO, text);
-}
-
-pub fn print_number(x: u64) {
-    io::print_decimal(STDOUT_FILENO, x);
-}
-
-// A number after a space.
-pub fn print_next(x: u64) {
-    print_text(b" ");
-    print_number(x);
-}
-
-// An answer's number, after a space.
-pub fn print_answer(answer: u8) {
-    print_next(wide(answer));
-}
-
-pub fn print_end() {
-    print_text(b"\n");
 }

@@ -7,16 +7,16 @@ use tables::Counts;
 
 // A line's start: the case's number and what the line is about.
 fn print_start(number: u64, about: &[u8]) {
-    cases::print_number(number);
-    cases::print_text(about);
+    printing::number(number);
+    printing::text(about);
 }
 
 fn print_counts(c: Counts) {
-    cases::print_next(c.members as u64);
-    cases::print_next(c.states as u64);
-    cases::print_next(c.primitives as u64);
-    cases::print_next(c.items as u64);
-    cases::print_next(c.policies as u64);
+    printing::next(c.members as u64);
+    printing::next(c.states as u64);
+    printing::next(c.primitives as u64);
+    printing::next(c.items as u64);
+    printing::next(c.policies as u64);
 }
 
 fn print_valid(number: u64, scheme: &[u8], c: Counts, network: &[u8])
@@ -24,21 +24,21 @@ fn print_valid(number: u64, scheme: &[u8], c: Counts, network: &[u8])
 {
     let is_valid = network::valid::valid(scheme, c, network);
     print_start(number, b" valid");
-    cases::print_next(if is_valid { 1 } else { 0 });
-    cases::print_end();
+    printing::next(if is_valid { 1 } else { 0 });
+    printing::end();
 }
 
 // A case's lines on its scheme, and on its network as it is given.
 fn print_check(number: u64, scheme: &[u8], network: &[u8]) {
     let reading = scheme::check(scheme);
     print_start(number, b" check");
-    cases::print_answer(scheme::number(reading));
+    printing::answer(scheme::number(reading));
     let Reading::Accepted(counts) = reading else {
-        cases::print_end();
+        printing::end();
         return;
     };
     print_counts(counts);
-    cases::print_end();
+    printing::end();
     print_valid(number, scheme, counts, network);
 }
 
@@ -46,9 +46,9 @@ fn print_check(number: u64, scheme: &[u8], network: &[u8]) {
 fn print_fresh(number: u64, scheme: &[u8], network: &mut [u8]) {
     let answer = network::fresh::fresh(scheme, network);
     print_start(number, b" fresh");
-    cases::print_answer(answer);
-    cases::print_next(cases::sum(network));
-    cases::print_end();
+    printing::answer(answer);
+    printing::next(cases::sum(network));
+    printing::end();
 }
 
 fn print_case(number: u64, scheme: &[u8], network: &mut [u8]) {

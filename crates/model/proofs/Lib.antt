@@ -10,6 +10,7 @@ pub mod Decoding
 pub mod Held
 pub mod Exemplified
 pub mod Logging
+pub mod Overlong
 pub mod StandardRead
 pub mod Cliques
 pub mod Sets

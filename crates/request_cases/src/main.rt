@@ -45,7 +45,7 @@ fn wide(x: u16) -> u64 {
 fn print_places(output: &[u16]) {
     let mut i: usize = 0;
     while i < output.len() {
-        cases::print_next(wide(output[i]));
+        printing::next(wide(output[i]));
         i += 1;
     }
 }
@@ -58,12 +58,12 @@ fn run_list(scheme: &[u8], network: &[u8], v: usize, u: usize, output: &mut [u16
     let listed = requests::list(scheme, network, v, u, output);
     match listed {
         Listed::Friends(count) => {
-            cases::print_answer(0);
-            cases::print_next(count as u64);
+            printing::answer(0);
+            printing::next(count as u64);
         }
-        Listed::Refused(answer) => cases::print_answer(answer),
+        Listed::Refused(answer) => printing::answer(answer),
     }
-    cases::print_text(b" |");
+    printing::text(b" |");
     print_places(output);
 }
 
@@ -80,15 +80,15 @@ fn run_request(
     requires { ⌜ length (now output) ≤ 1000 ⌝ }
 {
     match kind {
-        16 => cases::print_answer(requests::event(scheme, network, x, y, z)),
-        17 => cases::print_answer(requests::set(scheme, network, x, y, z)),
-        18 => cases::print_answer(requests::find(scheme, network, x, y)),
+        16 => printing::answer(requests::event(scheme, network, x, y, z)),
+        17 => printing::answer(requests::set(scheme, network, x, y, z)),
+        18 => printing::answer(requests::find(scheme, network, x, y)),
         19 => {
             if z <= output.len() {
                 run_list(scheme, network, x, y, &mut output[..z]);
             }
         }
-        20 => cases::print_answer(requests::view(scheme, network, x, y, z)),
+        20 => printing::answer(requests::view(scheme, network, x, y, z)),
         _ => (),
     }
 }
@@ -100,10 +100,10 @@ fn run_next(number: u64, place: u64, scheme: &[u8], network: &mut [u8], output: 
     let Request::Of(kind, x, y, z) = read_request() else {
         return false;
     };
-    cases::print_number(number);
-    cases::print_next(place);
+    printing::number(number);
+    printing::next(place);
     run_request(scheme, network, kind, x, y, z, output);
-    cases::print_end();
+    printing::end();
     true
 }
 
@@ -129,10 +129,10 @@ fn run_requests(
 
 // A case's last line: the sum of its network's bytes.
 fn print_sum(number: u64, network: &[u8]) {
-    cases::print_number(number);
-    cases::print_text(b" sum");
-    cases::print_next(cases::sum(network));
-    cases::print_end();
+    printing::number(number);
+    printing::text(b" sum");
+    printing::next(cases::sum(network));
+    printing::end();
 }
 
 // Reads a case's requests and prints its lines; false at the end of the input.

@@ -14,7 +14,7 @@ ghost use Rattle.model.specs.SchemeBytes.{schemeOf};
 ghost use Rattle.model.specs.Calls.{Called};
 ghost use Rattle.tables.specs.Read.{InRange, MarksOf};
 ghost use Rattle.network.specs.Ready.{Ready, worldOf, graphOf};
-ghost use Rattle.requests.specs.Answered.{answered, Written, ListCalled};
+ghost use Rattle.requests.specs.Answered.{answered, numberOf, countOf, Written, ListCalled};
 ghost use Rattle.requests.specs.Judged.{judgeNeeds};
 ghost use Rattle.requests.specs.Opened.{Opened};
 
@@ -274,4 +274,36 @@ pub fn event(scheme: &[u8], network: &mut [u8], v: usize, u: usize, a: usize) ->
     }
     move_pair(scheme, c, network, v, u, q);
     0
+}
+
+// A call's answer, and how many it wrote.
+pub struct Reply {
+    pub answer: u8,
+    pub count: usize,
+}
+
+// The reply of a call that writes no list.
+pub fn nothing_written(number: u8) -> Reply
+    ensures { λ r. ⌜ (r .answer ≡ number) × (r .count ≡ 0) ⌝ }
+{
+    Reply {
+        answer: number,
+        count: 0,
+    }
+}
+
+// The reply of a list.
+pub fn some_written(listed: Listed) -> Reply
+    ensures { λ r. ⌜ (r .answer ≡ numberOf listed) × (r .count ≡ countOf listed) ⌝ }
+{
+    match listed {
+        Listed::Friends(count) => Reply {
+            answer: 0,
+            count: count,
+        },
+        Listed::Refused(number) => Reply {
+            answer: number,
+            count: 0,
+        },
+    }
 }

@@ -1,12 +1,11 @@
 // The claims about every list of calls, and a run of one.
-use requests::Listed;
+use requests::Reply;
 ghost use mathlib.Core.Path.{_≡_};
 ghost use Prim.Native.Nat.{min, _+_, _*_, _≤_};
 ghost use lib.ListN.{length};
 ghost use Rattle.model.specs.Claims.{OneAnswer};
 ghost use Rattle.model.specs.Traces.{EveryTrace, RunsReplayed, ViewGranted, ItemsUnseen, EveryTraceFrom};
 ghost use Rattle.model.specs.Session.{SixteenLines};
-ghost use Rattle.requests.specs.Answered.{numberOf, countOf};
 ghost use Rattle.traces.specs.Cite.{CallMade};
 ghost use Rattle.traces.specs.Ran.{Stepped, Turned, fitting, Ran, Kept};
 
@@ -20,36 +19,6 @@ pub fn claims()
     ensures one_answer { λ r. ⌜ OneAnswer ⌝ }
     ensures sixteen_lines { λ r. ⌜ SixteenLines ⌝ }
 {}
-
-// A call's answer, and how many it wrote.
-struct Reply {
-    answer: u8,
-    count: usize,
-}
-
-fn nothing_written(number: u8) -> Reply
-    ensures { λ r. ⌜ (r .answer ≡ number) × (r .count ≡ 0) ⌝ }
-{
-    Reply {
-        answer: number,
-        count: 0,
-    }
-}
-
-fn some_written(listed: Listed) -> Reply
-    ensures { λ r. ⌜ (r .answer ≡ numberOf listed) × (r .count ≡ countOf listed) ⌝ }
-{
-    match listed {
-        Listed::Friends(count) => Reply {
-            answer: 0,
-            count: count,
-        },
-        Listed::Refused(number) => Reply {
-            answer: number,
-            count: 0,
-        },
-    }
-}
 
 // One request.
 fn step(
@@ -65,18 +34,18 @@ fn step(
     ensures { λ r. ⌜ Stepped (now (scheme .entry)) (now (network .entry)) kind x y z (now (row .entry)) (r .answer) (r .count) (now (row .exit)) (now (network .exit)) ⌝ }
 {
     if kind == 0 {
-        return nothing_written(requests::event(scheme, network, x, y, z));
+        return requests::nothing_written(requests::event(scheme, network, x, y, z));
     }
     if kind == 1 {
-        return nothing_written(requests::set(scheme, network, x, y, z));
+        return requests::nothing_written(requests::set(scheme, network, x, y, z));
     }
     if kind == 2 {
-        return nothing_written(requests::find(scheme, network, x, y));
+        return requests::nothing_written(requests::find(scheme, network, x, y));
     }
     if kind == 3 {
-        return some_written(requests::list(scheme, network, x, y, row));
+        return requests::some_written(requests::list(scheme, network, x, y, row));
     }
-    nothing_written(requests::view(scheme, network, x, y, z))
+    requests::nothing_written(requests::view(scheme, network, x, y, z))
 }
 
 fn wide(x: u16) -> usize

@@ -16,8 +16,8 @@ print-start-requires c κs = search needs
 number-requires : tie.Need-number-requires
 number-requires c κs = search needs
 
-print-answer-requires : tie.Need-print-answer-requires
-print-answer-requires c κs = search needs
+answer-requires : tie.Need-answer-requires
+answer-requires c κs = search needs
 
 enum-known-reading : tie.Need-enum-known-reading
 enum-known-reading c = search needs
@@ -25,8 +25,8 @@ enum-known-reading c = search needs
 enum-told : tie.Need-enum-told
 enum-told c = search needs
 
-print-end-requires : tie.Need-print-end-requires
-print-end-requires c κs = search needs
+end-requires : tie.Need-end-requires
+end-requires c κs = search needs
 
 returns : tie.Need-returns
 returns c = search needs
@@ -34,8 +34,8 @@ returns c = search needs
 print-counts-requires : tie.Need-print-counts-requires
 print-counts-requires c κs = search needs
 
-print-end-requires-2 : tie.Need-print-end-requires-2
-print-end-requires-2 c κs = search needs
+end-requires-2 : tie.Need-end-requires-2
+end-requires-2 c κs = search needs
 
 print-valid-requires : tie.Need-print-valid-requires
 print-valid-requires c κs =
@@ -53,12 +53,12 @@ print-check-spec =
     slice-aggregate-print-start
     print-start-requires
     number-requires
-    print-answer-requires
+    answer-requires
     enum-known-reading
     enum-told
-    print-end-requires
+    end-requires
     returns
     print-counts-requires
-    print-end-requires-2
+    end-requires-2
     print-valid-requires
     returns-2)

@@ -9,20 +9,20 @@ use Rattle.request_cases.proofs.run_request.Tie as tie
 event-requires : tie.Need-event-requires
 event-requires c κs = search needs
 
-print-answer-requires : tie.Need-print-answer-requires
-print-answer-requires c κs = search needs
+answer-requires : tie.Need-answer-requires
+answer-requires c κs = search needs
 
 set-requires : tie.Need-set-requires
 set-requires c κs = search needs
 
-print-answer-requires-2 : tie.Need-print-answer-requires-2
-print-answer-requires-2 c κs = search needs
+answer-requires-2 : tie.Need-answer-requires-2
+answer-requires-2 c κs = search needs
 
 find-requires : tie.Need-find-requires
 find-requires c κs = search needs
 
-print-answer-requires-3 : tie.Need-print-answer-requires-3
-print-answer-requires-3 c κs = search needs
+answer-requires-3 : tie.Need-answer-requires-3
+answer-requires-3 c κs = search needs
 
 slice-relend-prefix-run-list : tie.Need-slice-relend-prefix-run-list
 slice-relend-prefix-run-list c = search needs
@@ -36,8 +36,8 @@ run-list-requires c κs = omega (arith, slice-aggregate-run-list c)
 view-requires : tie.Need-view-requires
 view-requires c κs = search needs
 
-print-answer-requires-4 : tie.Need-print-answer-requires-4
-print-answer-requires-4 c κs = search needs
+answer-requires-4 : tie.Need-answer-requires-4
+answer-requires-4 c κs = search needs
 
 same-length : tie.Need-same-length
 same-length c = search needs
@@ -83,16 +83,16 @@ run-request-spec =
     tie.close
     (tie.spec
     event-requires
-    print-answer-requires
+    answer-requires
     set-requires
-    print-answer-requires-2
+    answer-requires-2
     find-requires
-    print-answer-requires-3
+    answer-requires-3
     slice-relend-prefix-run-list
     slice-aggregate-run-list
     run-list-requires
     view-requires
-    print-answer-requires-4
+    answer-requires-4
     same-length
     returns
     same-length-2
