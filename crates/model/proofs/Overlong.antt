@@ -8,14 +8,13 @@ use native.Mathlib.Nat.{mul-le-mul}
 use lib.ListN.{length, getD, length-append}
 use Rattle.model.specs.Answers.{Answers}
 use Rattle.model.specs.Bytes.{RecordAt}
-use Rattle.model.specs.SchemeBytes.{CountsFit, Records, schemeNeeds, end}
+use Rattle.model.specs.SchemeBytes.{CountsFit, Records, schemeNeeds, Accepted, end}
 
 front : (b rest : List ℕ) (k : ℕ) → k < length b → getD (b ++ rest) k 0 ≡ getD b k 0
 front [] rest k h = absurd (omega arith)
 front (x ∷ b) rest zero h = refl
 front (x ∷ b) rest (suc k) h = front b rest k (omega arith)
 
--- an accepted scheme has at most 530 bytes
 end-small : (b : List ℕ) → CountsFit b → end b ≤ 530
 end-small b c =
     let (s, t) = c .states in
@@ -23,6 +22,13 @@ end-small b c =
     let w : getD b 6 0 * 2 ≤ 32 = omega arith in
     let m : getD b 6 0 * 2 * getD b 7 0 ≤ 32 * 8 = mul-le-mul w q in
     omega (arith, m, t, q, c .items .1, c .policies .1)
+
+-- an accepted scheme has at most 530 bytes
+pub fits : (b : List ℕ) → Accepted b → length b ≤ 530
+fits b (inl (n, e)) = absurd (omega arith)
+fits b (inr (h, inl (n, e))) = absurd (omega arith)
+fits b (inr (h, inr (c, inl (n, e)))) = absurd (omega arith)
+fits b (inr (h, inr (c, inr (r, p)))) = omega (arith, r .no-more, end-small b c)
 
 module _ (b rest : List ℕ) (long : 530 < length b) where
   head : RecordAt (b ++ rest) 0 1 6 → RecordAt b 0 1 6
@@ -54,8 +60,14 @@ module _ (b rest : List ℕ) (long : 530 < length b) where
   overlong k (inl (n, e)) = inl ((λ h. n (head h)), e)
   overlong k (inr (h, inl (n, e))) = inr (head-too h, inl ((λ c. n (counts c)), e))
   overlong k (inr (h, inr (c, inl (n, e)))) =
-      inr (head-too h, inr (counts-too c, inl (
-        (λ r. omega (arith, r .no-more, end-small (b ++ rest) (counts-too c), length-append b rest)),
-        e,
-      )))
+      inr (
+        head-too h,
+        inr (
+          counts-too c,
+          inl (
+            (λ r. omega (arith, r .no-more, end-small (b ++ rest) (counts-too c), length-append b rest)),
+            e,
+          ),
+        ),
+      )
   overlong k (inr (h, inr (c, inr (r, p)))) = absurd (omega (arith, r .no-more, end-small b c))

@@ -24,6 +24,19 @@ pub fn answer(number: u8) {
     next(wide(number));
 }
 
+fn wide_member(x: u16) -> u64 {
+    x as u64
+}
+
+// Each number, after a space.
+pub fn list(numbers: &[u16]) {
+    let mut i: usize = 0;
+    while i < numbers.len() {
+        next(wide_member(numbers[i]));
+        i += 1;
+    }
+}
+
 pub fn end() {
     text(b"\n");
 }

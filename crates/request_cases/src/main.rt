@@ -38,18 +38,6 @@ fn fill(output: &mut [u16])
     }
 }
 
-fn wide(x: u16) -> u64 {
-    x as u64
-}
-
-fn print_places(output: &[u16]) {
-    let mut i: usize = 0;
-    while i < output.len() {
-        printing::next(wide(output[i]));
-        i += 1;
-    }
-}
-
 // A list's answer, where granted the count, and behind a bar every place of the output.
 fn run_list(scheme: &[u8], network: &[u8], v: usize, u: usize, output: &mut [u16])
     requires { ⌜ length (now output) ≤ 1000 ⌝ }
@@ -64,7 +52,7 @@ fn run_list(scheme: &[u8], network: &[u8], v: usize, u: usize, output: &mut [u16
         Listed::Refused(answer) => printing::answer(answer),
     }
     printing::text(b" |");
-    print_places(output);
+    printing::list(output);
 }
 
 // A request's answer; a list has as many places as its last argument says, and the output that many at least.

@@ -1,27 +1,27 @@
--- `request_cases::print_places` is safe and ends.
+-- `printing::list` is safe and ends.
 use Prim.Native.Nat.{_≤_, _-_}
 use borrow.Author.Needs.{needs}
 use lib.ListN.{length}
-use Rattle.request_cases.proofs.print_places.Statement.{statement}
-use Rattle.request_cases.proofs.print_places.Tie as tie
+use Rattle.printing.proofs.list.Statement.{statement}
+use Rattle.printing.proofs.list.Tie as tie
 
 abbrev Inv-loop : tie.InvT-loop
-Inv-loop output i₀ i = i ≤ length output
+Inv-loop numbers i₀ i = i ≤ length numbers
 
 abbrev μ-loop : tie.MeasureT-loop
-μ-loop output i₀ i = length output - i
+μ-loop numbers i₀ i = length numbers - i
 
 loop-holds : tie.Need-loop-holds Inv-loop μ-loop
 loop-holds c = search needs
 
-mul-wide : tie.Need-mul-wide Inv-loop μ-loop
-mul-wide c = search needs
+mul-wide-member : tie.Need-mul-wide-member Inv-loop μ-loop
+mul-wide-member c = search needs
 
-shared-slice-read-wide : tie.Need-shared-slice-read-wide Inv-loop μ-loop
-shared-slice-read-wide c = search needs
+shared-slice-read-wide-member : tie.Need-shared-slice-read-wide-member Inv-loop μ-loop
+shared-slice-read-wide-member c = search needs
 
-wide-requires : tie.Need-wide-requires Inv-loop μ-loop
-wide-requires c κs = search needs
+wide-member-requires : tie.Need-wide-member-requires Inv-loop μ-loop
+wide-member-requires c κs = search needs
 
 next-requires : tie.Need-next-requires Inv-loop μ-loop
 next-requires c κs = search needs
@@ -38,16 +38,16 @@ loop-again c = search needs
 returns : tie.Need-returns Inv-loop μ-loop
 returns c = search needs
 
-pub print-places-spec : {M : Type 1} → statement M
-print-places-spec =
+pub list-spec : {M : Type 1} → statement M
+list-spec =
     tie.close
     (tie.spec
     Inv-loop
     μ-loop
     loop-holds
-    mul-wide
-    shared-slice-read-wide
-    wide-requires
+    mul-wide-member
+    shared-slice-read-wide-member
+    wide-member-requires
     next-requires
     add-i
     loop-less

@@ -1,0 +1,73 @@
+-- The line of the record that was read.
+use Prim.Native.Nat.{ℕ, _≤_, _<_}
+use mathlib.Core.Path.{_≡_, refl, sym, _∙_, ap}
+use mathlib.Core.List.{List}
+use native.Mathlib.Omega.{arith}
+use lib.ListN.{length, take, drop, take-append-drop, length-append}
+use lib.Seq.{drop-at}
+use Rattle.model.specs.Requests.{Request, event, set-policy, find, list, view}
+use Rattle.model.specs.Calls.{Called}
+use Rattle.model.specs.Log.{Outcome, request, RequestAt, placeAfter}
+use Rattle.log.specs.Read.{outcome, Read}
+use Rattle.log.specs.declared.Answer.{Answer}
+use Rattle.requests.specs.Answered.{answered, numberOf, countOf, ListCalled}
+use Rattle.requests.specs.declared.Listed.{Listed}
+use Rattle.replay.specs.Lines.{Lent, Lined}
+use Rattle.replay.specs.declared.Line.{Line}
+use Rattle.replay.specs.declared.Line.the-variants.{Next}
+
+length-take-short : (n : ℕ) (l : List ℕ) → length (take n l) ≤ length l
+length-take-short n l = omega (arith, length-append (take n l) (drop n l), ap length (take-append-drop n l))
+
+module _ (b log : List ℕ) (k : ℕ) (net out : List ℕ) (said : Answer) (place : ℕ) (r : Read log k said place) (line : Line) where
+  -- a request that writes no list
+  pub plain : (answer count number : ℕ) (after : List ℕ) (q : Request) → outcome (length out) said ≡ request q → Lent (length out) q
+      → line ≡ Next answer count place → answer ≡ number → count ≡ 0 → Called b net (answered q number) after
+      → Lined b log k net out line after out
+  plain answer count number after q o l e ea ec c =
+      rw (e, ea, ec) (
+        q,
+        rw o at (r .says (length out)),
+        l,
+        r .moves (length out) ∙ ap (λ (x : Outcome). placeAfter log k x) o,
+        c,
+        omega arith,
+        refl,
+      )
+
+  pub friends : (answer count v u : ℕ) (told : Listed) (left : List ℕ) → outcome (length out) said ≡ request (list v u (length out))
+      → line ≡ Next answer count place → answer ≡ numberOf told → count ≡ countOf told → ListCalled b net v u out told left
+      → Lined b log k net out line net left
+  friends answer count v u told left o e ea ec c =
+      let written : List ℕ = take (countOf told) left in
+      let counted : countOf told ≡ length written = c .filled .counted in
+      let stays : drop (countOf told) left ≡ drop (countOf told) out =
+      ap (λ (l : List ℕ). drop (countOf told) l) (c .filled .filled)
+      ∙ drop-at written (drop (length written) out) (countOf told) (sym counted)
+      ∙ ap (λ (i : ℕ). drop i out) (sym counted) in
+      rw (e, ea, ec) (
+        list v u (length out),
+        rw o at (r .says (length out)),
+        refl,
+        r .moves (length out) ∙ ap (λ (x : Outcome). placeAfter log k x) o,
+        c .called,
+        omega (arith, length-take-short (countOf told) left),
+        stays,
+      )
+
+-- a record stands within the log
+within : (log : List ℕ) (k : ℕ) (q : Request) → RequestAt log k q → (k < placeAfter log k (request q)) × (placeAfter log k (request q) ≤ length log)
+within log k (event v u a) h = (omega arith, omega (arith, h .0 .0, h .0 .1))
+within log k (set-policy u r p) h = (omega arith, omega (arith, h .0 .0, h .0 .1))
+within log k (find v u) h = (omega arith, omega (arith, h .0 .0, h .0 .1))
+within log k (list v u places) h = (omega arith, omega (arith, h .0 .0, h .0 .1))
+within log k (view v u o) h = (omega arith, omega (arith, h .0 .0, h .0 .1))
+
+pub went-on : {b log : List ℕ} {k : ℕ} {net out : List ℕ} {line : Line} {answer count place : ℕ} {after left : List ℕ}
+    → line ≡ Next answer count place → Lined b log k net out line after left
+    → (k < place) × (place ≤ length log) × (count ≤ length left)
+went-on {b} {log} {k} {net} {out} {line} {answer} {count} {place} {after} {left} e h =
+    let x : Lined b log k net out (Next answer count place) after left = rw e at h in
+    let (q, n, l, m, c, s, d) = x in
+    let (i, j) = within log k q (n .1) in
+    (omega arith, omega arith, s)

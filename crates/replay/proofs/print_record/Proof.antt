@@ -1,0 +1,88 @@
+use borrow.Author.Needs.{needs}
+use Rattle.replay.proofs.print_record.Statement.{statement}
+use Rattle.replay.proofs.print_record.Tie as tie
+use Rattle.replay.proofs.print_record.Reads as reads
+use Rattle.replay.proofs.print_record.Lts as lts
+use Rattle.replay.proofs.play.Reads as play-reads
+use Rattle.replay.proofs.print_line.Reads as print-line-reads
+
+play-requires : tie.Need-play-requires
+play-requires c κs = search needs
+
+enum-known-line : tie.Need-enum-known-line
+enum-known-line c = search needs
+
+slice-reshare-prefix-print-line : tie.Need-slice-reshare-prefix-print-line
+slice-reshare-prefix-print-line c = ?
+
+slice-aggregate-print-line : tie.Need-slice-aggregate-print-line
+slice-aggregate-print-line c = ?
+
+print-line-requires : tie.Need-print-line-requires
+print-line-requires c κs = search needs
+
+enum-known-line-2 : tie.Need-enum-known-line-2
+enum-known-line-2 c = search needs
+
+slice-reshare-prefix-print-line-2 : tie.Need-slice-reshare-prefix-print-line-2
+slice-reshare-prefix-print-line-2 c = search needs
+
+slice-aggregate-print-line-2 : tie.Need-slice-aggregate-print-line-2
+slice-aggregate-print-line-2 c = search needs
+
+print-line-requires-2 : tie.Need-print-line-requires-2
+print-line-requires-2 c κs = search needs
+
+enum-told : tie.Need-enum-told
+enum-told c = search needs
+
+same-length : tie.Need-same-length
+same-length c = search needs
+
+same-length-2 : tie.Need-same-length-2
+same-length-2 c = search needs
+
+returns : tie.Need-returns
+returns c = ?
+
+same-length-3 : tie.Need-same-length-3
+same-length-3 c = search needs
+
+same-length-4 : tie.Need-same-length-4
+same-length-4 c = search needs
+
+returns-2 : tie.Need-returns-2
+returns-2 c = search needs
+
+same-length-5 : tie.Need-same-length-5
+same-length-5 c = search needs
+
+same-length-6 : tie.Need-same-length-6
+same-length-6 c = search needs
+
+returns-3 : tie.Need-returns-3
+returns-3 c = search needs
+
+pub print-record-spec : {M : Type 1} → statement M
+print-record-spec =
+    tie.close
+    (tie.spec
+    play-requires
+    enum-known-line
+    slice-reshare-prefix-print-line
+    slice-aggregate-print-line
+    print-line-requires
+    enum-known-line-2
+    slice-reshare-prefix-print-line-2
+    slice-aggregate-print-line-2
+    print-line-requires-2
+    enum-told
+    same-length
+    same-length-2
+    returns
+    same-length-3
+    same-length-4
+    returns-2
+    same-length-5
+    same-length-6
+    returns-3)
