@@ -19,14 +19,14 @@ outcome lent Ended = ended
 
 -- the answer is what document 01 says at this place of the log
 abbrev pub Says : List ℕ → ℕ → Answer → Type 0
-Says log place answer = (lent : ℕ) → NextAt log place (outcome lent answer)
+Says log place answer = (lent : ℕ) → NextAt log lent place (outcome lent answer)
 
 -- an answer, and the place afterwards
 pub record Read (log : List ℕ) (place : ℕ) (answer : Answer) (after : ℕ) : Type 0 where
   pub says : Says log place answer
   pub moves : (lent : ℕ) → after ≡ placeAfter log place (outcome lent answer)
 
--- how many bytes the record of an answer has
+-- how many bytes the reader moves for an answer
 abbrev pub sizeOf : Answer → ℕ
 sizeOf (Event v u a) = 9
 sizeOf (Set u r p) = 8

@@ -11,7 +11,7 @@ use Rattle.model.specs.Graph.{count}
 use Rattle.model.specs.Scheme.{lowestFrom}
 use Rattle.model.specs.SchemeBytes.{schemeOf}
 use Rattle.model.specs.Network.{fresh, pairPlace, held, world}
-use Rattle.model.specs.Requests.{Request, event, set-policy, find, list, view, writes, those, put, granted}
+use Rattle.model.specs.Requests.{writes, those, put, granted}
 use Rattle.model.specs.Standard.{standard, standardBytes}
 use Rattle.model.specs.Examples.{small, joins, Admission, AllAdmissions, admissions, four, Judgement, AllJudged, judgements, Effects, freshBytes, Layout}
 use Rattle.model.proofs.Computing.{some, every, among, isWithin, friendOfAll, allFriends, someList, isClique, onSide, admits, stands, begins, goes, reached, closed, found, sure, finds, allows, first, tests, asks}

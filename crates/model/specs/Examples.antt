@@ -188,13 +188,13 @@ kind21 = 5 ∷ 0 ∷ 21 ∷ 0 ∷ 5 ∷ 0 ∷ 6 ∷ 0 ∷ 1 ∷ []
 abbrev pub kind274 : List ℕ
 kind274 = 4 ∷ 0 ∷ 18 ∷ 1 ∷ 1 ∷ 0 ∷ 2 ∷ 0 ∷ []
 
--- a log, a place, what the reader says there, and its place afterwards
+-- a log, a place, what the reader says there, where a list is lent 256 places, and its place afterwards
 abbrev pub Reading : Type 0
 Reading = List ℕ × ℕ × Outcome × ℕ
 
 abbrev pub AllRead : List Reading → Type 0
 AllRead [] = Unit {0}
-AllRead ((b, place, says, after) ∷ rows) = NextAt b place says × (placeAfter b place says ≡ after) × AllRead rows
+AllRead ((b, place, says, after) ∷ rows) = NextAt b 256 place says × (placeAfter b place says ≡ after) × AllRead rows
 
 abbrev pub readings : List Reading
 readings =

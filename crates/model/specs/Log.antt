@@ -21,26 +21,28 @@ module _ (log : List ℕ) where
   abbrev pub Ended : ℕ → Type 0
   Ended k = length log ≤ k
 
-  -- at k stands a record with this request; how many places a list is lent does not stand in the log
+  -- the reader's place afterwards: past the record for a request; at the end, and after a 14, unchanged
+  abbrev pub placeAfter : ℕ → Outcome → ℕ
+  placeAfter k ended = k
+  placeAfter k (refused number) = k
+  placeAfter k (request q) = k + 4 + two log k
+
+-- how many places a list is lent does not stand in the log
+module _ (log : List ℕ) (lent : ℕ) where
+  -- at k stands a record with this request
   abbrev pub RequestAt : ℕ → Request → Type 0
   RequestAt k (event v u a) = RecordAt log k 16 5 × (two log (k + 4) ≡ v) × (two log (k + 6) ≡ u) × (byte log (k + 8) ≡ a)
   RequestAt k (set-policy u r p) = RecordAt log k 17 4 × (two log (k + 4) ≡ u) × (byte log (k + 6) ≡ r) × (byte log (k + 7) ≡ p)
   RequestAt k (find v u) = RecordAt log k 18 4 × (two log (k + 4) ≡ v) × (two log (k + 6) ≡ u)
-  RequestAt k (list v u places) = RecordAt log k 19 4 × (two log (k + 4) ≡ v) × (two log (k + 6) ≡ u)
+  RequestAt k (list v u places) = RecordAt log k 19 4 × (two log (k + 4) ≡ v) × (two log (k + 6) ≡ u) × (lent ≡ places)
   RequestAt k (view v u o) = RecordAt log k 20 5 × (two log (k + 4) ≡ v) × (two log (k + 6) ≡ u) × (byte log (k + 8) ≡ o)
 
   -- the next record, where the log has not ended: 14 if it is cut, of another kind, or of a wrong length
   abbrev pub recordNeeds : ℕ → List Requirement
   recordNeeds k = (14, (q : Request) × RequestAt k q) ∷ []
 
-  -- what the reader says at k: one outcome, whatever the log and the place
+  -- what the reader says at k
   abbrev pub NextAt : ℕ → Outcome → Type 0
-  NextAt k ended = Ended k
-  NextAt k (refused number) = (Ended k → ⊥) × Answers (recordNeeds k) number × (1 ≤ number)
-  NextAt k (request q) = (Ended k → ⊥) × RequestAt k q
-
-  -- its place afterwards: past the record for a request; at the end, and after a 14, unchanged
-  abbrev pub placeAfter : ℕ → Outcome → ℕ
-  placeAfter k ended = k
-  placeAfter k (refused number) = k
-  placeAfter k (request q) = k + 4 + two log k
+  NextAt k ended = Ended log k
+  NextAt k (refused number) = (Ended log k → ⊥) × Answers (recordNeeds k) number × (1 ≤ number)
+  NextAt k (request q) = (Ended log k → ⊥) × RequestAt k q

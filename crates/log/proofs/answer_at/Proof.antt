@@ -1,4 +1,4 @@
-use mathlib.Core.Path.{sym}
+use mathlib.Core.Path.{refl, sym}
 use native.Mathlib.Omega.{arith}
 use Rattle.model.proofs.Deciding.{said-yes, said-no}
 use Rattle.model.proofs.Logging.{refuses}
@@ -100,7 +100,7 @@ two-requires-7 : tie.Need-two-requires-7
 two-requires-7 c κs = omega (arith, (said-yes (c .before .if5 .taken) (c .before .before .record-at4 .ensures)) .0)
 
 returns-5 : tie.Need-returns-5
-returns-5 c = λ lent. ((λ h. omega arith), (said-yes (c .before .before .if5 .taken) (c .before .before .before .record-at4 .ensures), sym (c .before .two6 .ensures .0), sym (c .two7 .ensures .0)))
+returns-5 c = λ lent. ((λ h. omega arith), (said-yes (c .before .before .if5 .taken) (c .before .before .before .record-at4 .ensures), sym (c .before .two6 .ensures .0), sym (c .two7 .ensures .0), refl))
 
 record-at-requires-5 : tie.Need-record-at-requires-5
 record-at-requires-5 c κs = search needs
@@ -131,7 +131,7 @@ returns-6 c = λ lent. ((λ h. omega arith), (said-yes (c .before .before .befor
 
 returns-7 : tie.Need-returns-7
 returns-7 c =
-    λ lent. refuses (c .before .before .before .before .before .before .before .before .before .before .before .before .args .log .now) (c .before .before .before .before .before .before .before .before .before .before .before .before .args .place) (λ h. omega arith) (
+    λ lent. refuses (c .before .before .before .before .before .before .before .before .before .before .before .before .args .log .now) lent (c .before .before .before .before .before .before .before .before .before .before .before .before .args .place) (λ h. omega arith) (
       said-no (c .before .before .before .before .before .before .before .before .if2 .left) (c .before .before .before .before .before .before .before .before .before .record-at .ensures),
       said-no (c .before .before .before .before .before .before .if3 .left) (c .before .before .before .before .before .before .before .record-at2 .ensures),
       said-no (c .before .before .before .before .if4 .left) (c .before .before .before .before .before .record-at3 .ensures),
