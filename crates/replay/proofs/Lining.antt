@@ -12,7 +12,7 @@ use Rattle.log.specs.Read.{outcome, Read}
 use Rattle.log.specs.declared.Answer.{Answer}
 use Rattle.requests.specs.Answered.{answered, numberOf, countOf, ListCalled}
 use Rattle.requests.specs.declared.Listed.{Listed}
-use Rattle.replay.specs.Lines.{Lent, Lined}
+use Rattle.replay.specs.Lines.{Lined}
 use Rattle.replay.specs.declared.Line.{Line}
 use Rattle.replay.specs.declared.Line.the-variants.{Next}
 
@@ -21,14 +21,13 @@ length-take-short n l = omega (arith, length-append (take n l) (drop n l), ap le
 
 module _ (b log : List ℕ) (k : ℕ) (net out : List ℕ) (said : Answer) (place : ℕ) (r : Read log k said place) (line : Line) where
   -- a request that writes no list
-  pub plain : (answer count number : ℕ) (after : List ℕ) (q : Request) → outcome (length out) said ≡ request q → Lent (length out) q
+  pub plain : (answer count number : ℕ) (after : List ℕ) (q : Request) → outcome (length out) said ≡ request q
       → line ≡ Next answer count place → answer ≡ number → count ≡ 0 → Called b net (answered q number) after
       → Lined b log k net out line after out
-  plain answer count number after q o l e ea ec c =
+  plain answer count number after q o e ea ec c =
       rw (e, ea, ec) (
         q,
         rw o at (r .says (length out)),
-        l,
         r .moves (length out) ∙ ap (λ (x : Outcome). placeAfter log k x) o,
         c,
         omega arith,
@@ -48,7 +47,6 @@ module _ (b log : List ℕ) (k : ℕ) (net out : List ℕ) (said : Answer) (plac
       rw (e, ea, ec) (
         list v u (length out),
         rw o at (r .says (length out)),
-        refl,
         r .moves (length out) ∙ ap (λ (x : Outcome). placeAfter log k x) o,
         c .called,
         omega (arith, length-take-short (countOf told) left),
@@ -56,18 +54,18 @@ module _ (b log : List ℕ) (k : ℕ) (net out : List ℕ) (said : Answer) (plac
       )
 
 -- a record stands within the log
-within : (log : List ℕ) (k : ℕ) (q : Request) → RequestAt log k q → (k < placeAfter log k (request q)) × (placeAfter log k (request q) ≤ length log)
-within log k (event v u a) h = (omega arith, omega (arith, h .0 .0, h .0 .1))
-within log k (set-policy u r p) h = (omega arith, omega (arith, h .0 .0, h .0 .1))
-within log k (find v u) h = (omega arith, omega (arith, h .0 .0, h .0 .1))
-within log k (list v u places) h = (omega arith, omega (arith, h .0 .0, h .0 .1))
-within log k (view v u o) h = (omega arith, omega (arith, h .0 .0, h .0 .1))
+within : (log : List ℕ) (lent k : ℕ) (q : Request) → RequestAt log lent k q → (k < placeAfter log k (request q)) × (placeAfter log k (request q) ≤ length log)
+within log lent k (event v u a) h = (omega arith, omega (arith, h .0 .0, h .0 .1))
+within log lent k (set-policy u r p) h = (omega arith, omega (arith, h .0 .0, h .0 .1))
+within log lent k (find v u) h = (omega arith, omega (arith, h .0 .0, h .0 .1))
+within log lent k (list v u places) h = (omega arith, omega (arith, h .0 .0, h .0 .1))
+within log lent k (view v u o) h = (omega arith, omega (arith, h .0 .0, h .0 .1))
 
-pub went-on : {b log : List ℕ} {k : ℕ} {net out : List ℕ} {line : Line} {answer count place : ℕ} {after left : List ℕ}
+pub went-on : (b log : List ℕ) (k : ℕ) (net out : List ℕ) (line : Line) (answer count place : ℕ) (after left : List ℕ)
     → line ≡ Next answer count place → Lined b log k net out line after left
     → (k < place) × (place ≤ length log) × (count ≤ length left)
-went-on {b} {log} {k} {net} {out} {line} {answer} {count} {place} {after} {left} e h =
+went-on b log k net out line answer count place after left e h =
     let x : Lined b log k net out (Next answer count place) after left = rw e at h in
-    let (q, n, l, m, c, s, d) = x in
-    let (i, j) = within log k q (n .1) in
+    let (q, n, m, c, s, d) = x in
+    let (i, j) = within log (length out) k q (n .1) in
     (omega arith, omega arith, s)

@@ -56,3 +56,13 @@ module _ (b log net : List ℕ) where
         (past-scheme a (inr (l, inr (omega arith, refl))), e, rw (take-at after (drop count net) count m) made, drop-at after (drop count net) count m),
         short (FreshOf count) a,
       )
+
+-- the fresh network has room, and the log is short
+pub fits-in : (b log net : List ℕ) (start : Start) (count : ℕ) (after : List ℕ) → start ≡ FreshOf count → Started b log net start after → length after ≡ length net
+    → (length log ≤ 16384) × (count ≤ length after)
+fits-in b log net start count after e h same =
+    let x : Started b log net (FreshOf count) after = rw e at h in
+    let m = granted-met (startNeeds b log net) (omega arith) (x .0) in
+    let l : length log ≤ 16384 = m .1 .1 .1 .1 .1 .0 in
+    let s : size (schemeOf b) ≤ length net = m .1 .1 .1 .1 .1 .1 .0 in
+    (l, omega (arith, x .1))

@@ -1,12 +1,12 @@
 -- The log program's start and its lines (document 01, "Log program").
-use Prim.Native.Nat.{ℕ, _+_, _≤_, _<_}
+use Prim.Native.Nat.{ℕ, _≤_, _<_}
 use mathlib.Core.Path.{_≡_}
 use mathlib.Core.List.{List, [], _∷_, _++_}
 use lib.ListN.{length, take, drop}
 use Rattle.model.specs.Answers.{Requirement, Answers}
-use Rattle.model.specs.SchemeBytes.{schemeOf, schemeNeeds, Accepted}
+use Rattle.model.specs.SchemeBytes.{schemeOf, schemeNeeds}
 use Rattle.model.specs.Network.{size}
-use Rattle.model.specs.Requests.{Request, event, set-policy, find, list, view, Turn}
+use Rattle.model.specs.Requests.{Request}
 use Rattle.model.specs.Calls.{Fresh, Called}
 use Rattle.model.specs.Log.{ended, refused, request, NextAt, placeAfter}
 use Rattle.replay.specs.declared.Start.{Start}
@@ -36,24 +36,15 @@ startNumber (Refused number) = number
 abbrev pub Overlong : List ℕ → Start → Type 0
 Overlong b start = 530 < length b → (rest : List ℕ) → Answers (schemeNeeds (b ++ rest)) (startNumber start)
 
--- a list is lent this many places
-abbrev pub Lent : ℕ → Request → Type 0
-Lent n (event v u a) = Unit {0}
-Lent n (set-policy u r p) = Unit {0}
-Lent n (find v u) = Unit {0}
-Lent n (list v u places) = places ≡ n
-Lent n (view v u o) = Unit {0}
-
 -- the line of the record at a place: the request was called, its list stands at the front of the output, the rest as it was, and
 -- the next place is behind the record; a 14, which is the last line; or no line, at the end of the log
 abbrev pub Lined : List ℕ → List ℕ → ℕ → List ℕ → List ℕ → Line → List ℕ → List ℕ → Type 0
 Lined b log k net out (Next answer count place) after left =
     (q : Request)
-    × NextAt log k (request q)
-    × Lent (length out) q
+    × NextAt log (length out) k (request q)
     × (place ≡ placeAfter log k (request q))
     × Called b net (record { request = q; answer = answer; written = take count left }) after
     × (count ≤ length left)
     × (drop count left ≡ drop count out)
-Lined b log k net out (Last number) after left = (number ≡ 14) × NextAt log k (refused 14) × (after ≡ net) × (left ≡ out)
-Lined b log k net out End after left = NextAt log k ended × (after ≡ net) × (left ≡ out)
+Lined b log k net out (Last number) after left = (number ≡ 14) × NextAt log (length out) k (refused 14) × (after ≡ net) × (left ≡ out)
+Lined b log k net out End after left = NextAt log (length out) k ended × (after ≡ net) × (left ≡ out)

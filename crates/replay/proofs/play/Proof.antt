@@ -84,7 +84,7 @@ returns : tie.Need-returns
 returns c =
     let a = c .before .before .before .before .before .before .before .before .before .before .before .before .before .before .args in
     let read = c .before .before .before .before .before .before .before .before .before .read in
-    plain (now (a .scheme)) (now (a .log)) (a .place) (now (a .network)) (now (a .output)) (read .result .answer) (read .result .place) (read .ensures) _ _ _ _ _ _ (ap (λ (x : Answer). outcome (length (now (a .output))) x) (c .before .before .before .before .before .before .before .answer .given .1)) tt (c .next .ensures) (c .before .nothing-written .ensures .0) (c .before .nothing-written .ensures .1) (c .before .before .before .before .event .ensures)
+    plain (now (a .scheme)) (now (a .log)) (a .place) (now (a .network)) (now (a .output)) (read .result .answer) (read .result .place) (read .ensures) _ _ _ _ _ _ (ap (λ (x : Answer). outcome (length (now (a .output))) x) (c .before .before .before .before .before .before .before .answer .given .1)) (c .next .ensures) (c .before .nothing-written .ensures .0) (c .before .nothing-written .ensures .1) (c .before .before .before .before .event .ensures)
 
 same-length-2 : tie.Need-same-length-2
 same-length-2 c = search needs
@@ -93,7 +93,7 @@ returns-2 : tie.Need-returns-2
 returns-2 c =
     let a = c .before .before .before .before .before .before .before .before .before .before .before .before .before .before .args in
     let read = c .before .before .before .before .before .before .before .before .before .read in
-    plain (now (a .scheme)) (now (a .log)) (a .place) (now (a .network)) (now (a .output)) (read .result .answer) (read .result .place) (read .ensures) _ _ _ _ _ _ (ap (λ (x : Answer). outcome (length (now (a .output))) x) (c .before .before .before .before .before .before .before .answer2 .given .1)) tt (c .next2 .ensures) (c .before .nothing-written2 .ensures .0) (c .before .nothing-written2 .ensures .1) (c .before .before .before .before .set .ensures)
+    plain (now (a .scheme)) (now (a .log)) (a .place) (now (a .network)) (now (a .output)) (read .result .answer) (read .result .place) (read .ensures) _ _ _ _ _ _ (ap (λ (x : Answer). outcome (length (now (a .output))) x) (c .before .before .before .before .before .before .before .answer2 .given .1)) (c .next2 .ensures) (c .before .nothing-written2 .ensures .0) (c .before .nothing-written2 .ensures .1) (c .before .before .before .before .set .ensures)
 
 same-length-3 : tie.Need-same-length-3
 same-length-3 c = search needs
@@ -102,7 +102,7 @@ returns-3 : tie.Need-returns-3
 returns-3 c =
     let a = c .before .before .before .before .before .before .before .before .before .before .before .before .args in
     let read = c .before .before .before .before .before .before .before .read in
-    plain (now (a .scheme)) (now (a .log)) (a .place) (now (a .network)) (now (a .output)) (read .result .answer) (read .result .place) (read .ensures) _ _ _ _ _ _ (ap (λ (x : Answer). outcome (length (now (a .output))) x) (c .before .before .before .before .before .answer3 .given .1)) tt (c .next3 .ensures) (c .before .nothing-written3 .ensures .0) (c .before .nothing-written3 .ensures .1) (c .before .before .find .ensures)
+    plain (now (a .scheme)) (now (a .log)) (a .place) (now (a .network)) (now (a .output)) (read .result .answer) (read .result .place) (read .ensures) _ _ _ _ _ _ (ap (λ (x : Answer). outcome (length (now (a .output))) x) (c .before .before .before .before .before .answer3 .given .1)) (c .next3 .ensures) (c .before .nothing-written3 .ensures .0) (c .before .nothing-written3 .ensures .1) (c .before .before .find .ensures)
 
 same-length-4 : tie.Need-same-length-4
 same-length-4 c = search needs
@@ -123,17 +123,17 @@ returns-5 : tie.Need-returns-5
 returns-5 c =
     let a = c .before .before .before .before .before .before .before .before .before .before .before .before .args in
     let read = c .before .before .before .before .before .before .before .read in
-    plain (now (a .scheme)) (now (a .log)) (a .place) (now (a .network)) (now (a .output)) (read .result .answer) (read .result .place) (read .ensures) _ _ _ _ _ _ (ap (λ (x : Answer). outcome (length (now (a .output))) x) (c .before .before .before .before .before .answer5 .given .1)) tt (c .next5 .ensures) (c .before .nothing-written4 .ensures .0) (c .before .nothing-written4 .ensures .1) (c .before .before .view .ensures)
+    plain (now (a .scheme)) (now (a .log)) (a .place) (now (a .network)) (now (a .output)) (read .result .answer) (read .result .place) (read .ensures) _ _ _ _ _ _ (ap (λ (x : Answer). outcome (length (now (a .output))) x) (c .before .before .before .before .before .answer5 .given .1)) (c .next5 .ensures) (c .before .nothing-written4 .ensures .0) (c .before .nothing-written4 .ensures .1) (c .before .before .view .ensures)
 
 returns-6 : tie.Need-returns-6
 returns-6 c =
     let read = c .before .before .read in
-    (refl, rw (c .enum-told .given .1) at (read .ensures .says 0), refl, refl)
+    (refl, rw (c .enum-told .given .1) at (read .ensures .says (length (now (c .before .before .before .before .before .before .before .args .output)))), refl, refl)
 
 returns-7 : tie.Need-returns-7
 returns-7 c =
     let read = c .before .before .read in
-    (rw (c .enum-told2 .given .1) at (read .ensures .says 0), refl, refl)
+    (rw (c .enum-told2 .given .1) at (read .ensures .says (length (now (c .before .before .before .before .before .before .before .args .output)))), refl, refl)
 
 pub play-spec : {M : Type 1} → statement M
 play-spec =

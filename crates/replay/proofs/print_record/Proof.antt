@@ -1,10 +1,12 @@
+use Prim.Native.Nat.{_<_, _≤_}
+use mathlib.Core.Path.{sym}
+use lib.ListN.{length}
+use lib.Seq.{length-take-le}
+use denote.Ref.{now}
+use Rattle.replay.proofs.Lining.{went-on}
 use borrow.Author.Needs.{needs}
 use Rattle.replay.proofs.print_record.Statement.{statement}
 use Rattle.replay.proofs.print_record.Tie as tie
-use Rattle.replay.proofs.print_record.Reads as reads
-use Rattle.replay.proofs.print_record.Lts as lts
-use Rattle.replay.proofs.play.Reads as play-reads
-use Rattle.replay.proofs.print_line.Reads as print-line-reads
 
 play-requires : tie.Need-play-requires
 play-requires c κs = search needs
@@ -12,11 +14,20 @@ play-requires c κs = search needs
 enum-known-line : tie.Need-enum-known-line
 enum-known-line c = search needs
 
+-- the record is whole, and its list within the output
+inside : (c : tie.After-known-told)
+    → let line = c .before .line .given .0 in
+    let a = c .before .before .before .before .before .before .before .before .before .before .before .before .before .before .args in
+    (a .place < line .1 .1 .0) × (line .1 .1 .0 ≤ length (now (a .log))) × (line .1 .0 ≤ length (c .before .before .before .before .before .before .before .play .last .1 .1 .1 .1 .0))
+inside c =
+    let a = c .before .before .before .before .before .before .before .before .before .before .before .before .before .before .args in
+    went-on (now (a .scheme)) (now (a .log)) (a .place) (now (a .network)) (now (a .output)) _ _ _ _ _ _ (c .before .line .given .1) (c .before .before .before .before .before .before .before .play .ensures)
+
 slice-reshare-prefix-print-line : tie.Need-slice-reshare-prefix-print-line
-slice-reshare-prefix-print-line c = ?
+slice-reshare-prefix-print-line c = inside c .2
 
 slice-aggregate-print-line : tie.Need-slice-aggregate-print-line
-slice-aggregate-print-line c = ?
+slice-aggregate-print-line c = sym (length-take-le _ _ (inside (c .before) .2))
 
 print-line-requires : tie.Need-print-line-requires
 print-line-requires c κs = search needs
@@ -43,7 +54,7 @@ same-length-2 : tie.Need-same-length-2
 same-length-2 c = search needs
 
 returns : tie.Need-returns
-returns c = ?
+returns c = let i = inside (c .before .before) in (i .0, i .1)
 
 same-length-3 : tie.Need-same-length-3
 same-length-3 c = search needs
