@@ -30,9 +30,19 @@ def damaged(rng, data):
     at = rng.randrange(len(data))
     return changed(data, at, (data[at] + rng.randrange(1, 256)) % 256)
 
+
 def part(data):
     """A 2-byte length and the bytes."""
     return len(data).to_bytes(2, 'little') + data
+
+
+def parts(data):
+    """The bytes of each part."""
+    at = 0
+    while at < len(data):
+        length = ref.number(data, at)
+        yield data[at + 2:at + 2 + length]
+        at += 2 + length
 
 
 def numbers(*values):
