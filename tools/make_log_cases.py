@@ -7,11 +7,13 @@ Its lines, K being its number from 1:
     end K
 """
 import sys
+from itertools import islice
 
 sys.dont_write_bytecode = True      # no __pycache__ in the repository
 import reference as ref
 from cases import EVERYONE, NO_ONE, OWNER, accepted_scheme, changed, damaged, part, random_counts, write
-from make_request_cases import CALLS, every_end, opening, random_requests, search_by_everyone, walking_scheme
+from make_request_cases import (CALLS, broken_schemes, every_end, opening, random_requests, search_by_everyone,
+                                walking_scheme)
 
 FEWEST = 20         # how often each request has to get each of its answers
 LONGEST = 530       # bytes of the longest scheme that is accepted
@@ -152,24 +154,12 @@ def long_logs(rng):
     yield ref.standard_scheme(256), filled(rng, scheme, 16385)
 
 
-def refused_scheme(rng, i):
-    """A scheme that is cut, or has a count out of range, one byte changed, a mark of 2, a mask beyond P, state 0 marked, or
-    search open to strangers."""
-    scheme = ref.standard_scheme(rng.randrange(1, 6)) if i % 2 else walking_scheme(rng, rng.randrange(1, 6))
-    at = rng.randrange(4, 10)
-    marks = 18 + ref.body_lengths(ref.read_scheme(scheme)[1].counts)[0]
-    return [scheme[:rng.randrange(len(scheme))],
-            changed(scheme, at, 2 if at == 5 else rng.choice([0, 33, 255]) if at > 5 else 0),
-            damaged(rng, scheme), changed(scheme, marks, 2), changed(scheme, len(scheme) - 1, 255),
-            changed(scheme, marks, 1), search_by_everyone(scheme)][i % 7]
-
-
 def refused_schemes(rng):
     """Refusals of the scheme come before those of the log: with a log that runs, an empty one, one that is damaged, and one
     that is too long."""
     logs = [session(), b'', b'\0', session()[:20], b''.join(one_of_each(rng, 4))]
-    for i in range(49):
-        yield refused_scheme(rng, i), logs[i % len(logs)]
+    for i, (scheme, _, _) in enumerate(islice(broken_schemes(rng), 49)):
+        yield scheme, logs[i % len(logs)]
     too_long = filled(rng, ref.standard_scheme(3), 16385)
     for scheme in (b'', ref.standard_scheme(4)[:-1], ref.standard_scheme(257), ref.standard_scheme(0),
                    changed(ref.standard_scheme(4), 46, 2), search_by_everyone(ref.standard_scheme(4))):
@@ -178,7 +168,7 @@ def refused_schemes(rng):
 
 
 def long_schemes(rng):
-    """Schemes of the greatest length that is accepted, and longer ones: bytes behind the fifth record, or a head that is off."""
+    """Schemes of the greatest length that is accepted, and longer ones: with bytes behind, or a head that is off."""
     longest = accepted_scheme(rng, ref.LIMITS._replace(members=3))
     assert len(longest) == LONGEST
     yield longest, log_of(random_requests(rng, longest, 20))
