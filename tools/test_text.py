@@ -101,8 +101,10 @@ class Schemes(unittest.TestCase):
                 (mask + 1, 16, (mask, 'record 5 (masks): the lowest policy for search, 12, admits strangers'))):
             self.assertEqual(examine(changed(scheme, at, value)).faults, [told], (at, value))
         self.assertEqual(examine(scheme + b'ab').faults, [(150, '2 bytes follow the fifth record')])
-        self.assertEqual(examine(scheme[:120]).faults,
-                         [(120, 'record 5 (masks) is cut: its body has 36 bytes, and 6 are there')])
+        for size, told in ((120, 'record 5 (masks) is cut: its body has 36 bytes, and 6 are there'),
+                           (114, 'record 5 (masks) is cut: its body has 36 bytes, and 0 are there'),
+                           (113, 'record 5 (masks) is cut: its head has 4 bytes, and 3 are there')):
+            self.assertEqual(examine(scheme[:size]).faults, [(size, told)])
 
 
 class Logs(unittest.TestCase):
@@ -138,6 +140,7 @@ class Logs(unittest.TestCase):
         names = known_names(ref.standard_scheme(4))
         find = bytes((4, 0, 18, 0, 1, 0, 2, 0))
         for record, told in ((b'\4\0\x12', 'the record is cut: its head has 4 bytes, and 3 are there'),
+                             (find[:4], 'the record is cut: the body of find has 4 bytes, and 0 are there'),
                              (find[:6], 'the record is cut: the body of find has 4 bytes, and 2 are there'),
                              (changed(find, 2, 21), 'kind 21 is none of 16 to 20'),
                              (changed(find, 0, 5), 'the body of find has 4 bytes, and the record says 5')):
@@ -374,6 +377,13 @@ class Commands(unittest.TestCase):
                          '  byte 4: record 1 (head): members are 1 to 256, and not 257\n')
         os.remove(os.path.join(self.folder, 'scheme'))
         self.assertIn('byte 0: record 1 (head) is cut', self.command('run', '.', '--program', REFERENCE))
+
+    def test_longest_log(self):
+        self.put('program', b"#!/bin/sh\nprintf '0 15\\n'\n", executable=True)
+        for count, too_long in ((2048, False), (2049, True)):
+            self.put('requests.txt', b'find 0 0\n' * count)
+            self.assertEqual('answers 15' in self.command('write', '.'), too_long)
+            self.command('run', '.', '--program', 'program', status=0 if too_long else 1)
 
     def test_run_stops(self):
         self.command('write', '.')
