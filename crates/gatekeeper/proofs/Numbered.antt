@@ -1,0 +1,32 @@
+-- An answer that is an enum, as document 01's number and a count beside it.
+use Prim.Native.Nat.{ℕ, zero, suc}
+use mathlib.Core.Path.{_≡_, refl}
+use mathlib.Core.List.{List}
+use native.Mathlib.Omega.{arith}
+use Rattle.model.specs.Answers.{Answers}
+use Rattle.model.specs.SchemeBytes.{schemeNeeds}
+use Rattle.scheme.specs.Checked.{Checked, numberOf as readingNumber}
+use Rattle.scheme.specs.declared.Reading.{Reading}
+use Rattle.scheme.specs.declared.Reading.the-variants.{Accepted, Refused as Unread}
+use Rattle.requests.specs.Answered.{numberOf, countOf, ListCalled}
+use Rattle.requests.specs.declared.Listed.{Listed}
+use Rattle.requests.specs.declared.Listed.the-variants.{Friends, Refused}
+use Rattle.gatekeeper.specs.Listing.{ListAnswered}
+
+pub check-number : (b : List ℕ) (x : Reading) {k : ℕ} → Checked b x → k ≡ readingNumber x → Answers (schemeNeeds b) k
+check-number b (Accepted c) h e = rw e (h .0)
+check-number b (Unread number) h e = rw e (h .0)
+
+module _ (b net : List ℕ) (v u : ℕ) (out : List ℕ) (count : ℕ) (after : List ℕ) where
+  -- granted, and the count written
+  pub list-granted : (x : Listed) {k count′ : ℕ} → ListCalled b net v u out x after → k ≡ numberOf x → k ≡ 0 → count′ ≡ countOf x
+      → ListAnswered b net v u out count k after count′
+  list-granted (Friends n) h e z w = rw (e, w) (record { called = h .called; filled = h .filled; kept = λ unlike. absurd (unlike refl) })
+  list-granted (Refused zero) h e z w = rw (e, w) (record { called = h .called; filled = h .filled; kept = λ unlike. absurd (unlike refl) })
+  list-granted (Refused (suc m)) h e z w = absurd (omega arith)
+
+  -- refused, and the count left alone
+  pub list-refused : (x : Listed) {k : ℕ} → ListCalled b net v u out x after → k ≡ numberOf x → (k ≡ 0 → ⊥) → ListAnswered b net v u out count k after count
+  list-refused (Friends n) h e unlike = absurd (unlike e)
+  list-refused (Refused zero) h e unlike = absurd (unlike e)
+  list-refused (Refused (suc m)) h e unlike = rw e (record { called = h .called; filled = h .filled; kept = λ _. refl })

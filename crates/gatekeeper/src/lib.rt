@@ -1,0 +1,109 @@
+// The calls for other languages, on numbers and lent slices. A slice stands in C as a pointer and a count of elements.
+use requests::Listed;
+ghost use mathlib.Core.Path.{_≡_};
+ghost use Rattle.model.specs.Answers.{Answers};
+ghost use Rattle.model.specs.Calls.{Called, Freshened};
+ghost use Rattle.model.specs.Requests.{event, set-policy, find, view};
+ghost use Rattle.model.specs.SchemeBytes.{schemeNeeds};
+ghost use Rattle.requests.specs.Answered.{answered, numberOf, countOf};
+ghost use Rattle.gatekeeper.specs.Listing.{ListAnswered};
+
+// The scheme check.
+#[no_mangle]
+pub extern "C" fn gatekeeper_check(scheme: &[u8]) -> u8
+    ensures { λ k. ⌜ Answers (schemeNeeds (now (scheme .entry))) k ⌝ }
+{
+    scheme::number(scheme::check(scheme))
+}
+
+// Fresh: makes a lent network fresh.
+#[no_mangle]
+pub extern "C" fn gatekeeper_fresh(scheme: &[u8], network: &mut [u8]) -> u8
+    ensures { λ k. ⌜ Freshened (now (scheme .entry)) (now (network .entry)) k (now (network .exit)) ⌝ }
+{
+    network::fresh::fresh(scheme, network)
+}
+
+// Event: v uses primitive a towards u.
+#[no_mangle]
+pub extern "C" fn gatekeeper_event(
+    scheme: &[u8],
+    network: &mut [u8],
+    v: usize,
+    u: usize,
+    a: usize,
+) -> u8
+    ensures { λ k. ⌜ Called (now (scheme .entry)) (now (network .entry)) (answered (event v u a) k) (now (network .exit)) ⌝ }
+{
+    requests::event(scheme, network, v, u, a)
+}
+
+// Set: u chooses policy p for resource r.
+#[no_mangle]
+pub extern "C" fn gatekeeper_set(
+    scheme: &[u8],
+    network: &mut [u8],
+    u: usize,
+    r: usize,
+    p: usize,
+) -> u8
+    ensures { λ k. ⌜ Called (now (scheme .entry)) (now (network .entry)) (answered (set-policy u r p) k) (now (network .exit)) ⌝ }
+{
+    requests::set(scheme, network, u, r, p)
+}
+
+// Find: whether v finds u.
+#[no_mangle]
+pub extern "C" fn gatekeeper_find(scheme: &[u8], network: &[u8], v: usize, u: usize) -> u8
+    ensures { λ k. ⌜ Called (now (scheme .entry)) (now (network .entry)) (answered (find v u) k) (now (network .entry)) ⌝ }
+{
+    requests::find(scheme, network, v, u)
+}
+
+// Document 01's number of a list's answer.
+fn number(listed: Listed) -> u8
+    ensures { λ k. ⌜ k ≡ numberOf listed ⌝ }
+{
+    match listed {
+        Listed::Friends(_) => 0,
+        Listed::Refused(k) => k,
+    }
+}
+
+// How many friends a list wrote; 0 where it was refused.
+fn written(listed: Listed) -> usize
+    ensures { λ r. ⌜ r ≡ countOf listed ⌝ }
+{
+    match listed {
+        Listed::Friends(r) => r,
+        Listed::Refused(_) => 0,
+    }
+}
+
+// List: v asks for u's friends. Only a grant writes the count.
+#[no_mangle]
+pub extern "C" fn gatekeeper_list(
+    scheme: &[u8],
+    network: &[u8],
+    v: usize,
+    u: usize,
+    output: &mut [u16],
+    count: &mut usize,
+) -> u8
+    ensures { λ k. ⌜ ListAnswered (now (scheme .entry)) (now (network .entry)) v u (now (output .entry)) (now (count .entry)) k (now (output .exit)) (now (count .exit)) ⌝ }
+{
+    let listed = requests::list(scheme, network, v, u, output);
+    let answer = number(listed);
+    if answer == 0 {
+        *count = written(listed);
+    }
+    answer
+}
+
+// View: v asks for item o of u.
+#[no_mangle]
+pub extern "C" fn gatekeeper_view(scheme: &[u8], network: &[u8], v: usize, u: usize, o: usize) -> u8
+    ensures { λ k. ⌜ Called (now (scheme .entry)) (now (network .entry)) (answered (view v u o) k) (now (network .entry)) ⌝ }
+{
+    requests::view(scheme, network, v, u, o)
+}

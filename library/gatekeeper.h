@@ -1,0 +1,55 @@
+/* The gatekeeper's calls for C (crates/gatekeeper). Every call answers document 01's number: 0 is a grant.
+ *
+ * The calls are proved for any bytes and any numbers. What follows is asked of the caller, and nothing checks it here:
+ *
+ * - Each pointer is valid for its length: scheme and network for that many bytes, output for that many uint16_t,
+ *   count for one size_t. A length counts elements, not bytes. With length 0 the pointer may be NULL; count may not.
+ * - What a call may write (network in fresh, event and set; output and count in list) is writable.
+ * - output is aligned for uint16_t, and count for size_t.
+ * - No two of scheme, network, output and count overlap.
+ * - While a call runs, no other thread writes anything lent to it, or reads a network, an output or a count that it may
+ *   write: one thread at a time for each network. The library itself keeps nothing between calls.
+ *
+ * A call needs less than 16 kilobytes of stack, allocates nothing and calls nothing outside the library. */
+#ifndef GATEKEEPER_H
+#define GATEKEEPER_H
+
+#include <stddef.h>
+#include <stdint.h>
+
+#ifdef __cplusplus
+extern "C" {
+#endif
+
+/* The scheme check: 0 to 4. */
+uint8_t gatekeeper_check(const uint8_t *scheme, size_t scheme_length);
+
+/* Makes a network fresh: 0 to 5. Its length is n(n - 1)/2 + n(2 + A + I). Its old bytes are not read, but they must be there. */
+uint8_t gatekeeper_fresh(const uint8_t *scheme, size_t scheme_length, uint8_t *network, size_t network_length);
+
+/* Member v uses primitive a towards member u. Only a grant writes: the state of their pair. */
+uint8_t gatekeeper_event(const uint8_t *scheme, size_t scheme_length, uint8_t *network, size_t network_length,
+                         size_t v, size_t u, size_t a);
+
+/* Member u chooses policy p for resource r. Only a grant writes: that setting. */
+uint8_t gatekeeper_set(const uint8_t *scheme, size_t scheme_length, uint8_t *network, size_t network_length,
+                       size_t u, size_t r, size_t p);
+
+/* Whether member v finds member u. */
+uint8_t gatekeeper_find(const uint8_t *scheme, size_t scheme_length, const uint8_t *network, size_t network_length,
+                        size_t v, size_t u);
+
+/* Member v asks for u's friends. A grant writes them in rising order at the front of output, and their number to count;
+ * the places behind them stay. A refusal writes neither. n places are always enough. */
+uint8_t gatekeeper_list(const uint8_t *scheme, size_t scheme_length, const uint8_t *network, size_t network_length,
+                        size_t v, size_t u, uint16_t *output, size_t output_length, size_t *count);
+
+/* Member v asks for item o of member u. */
+uint8_t gatekeeper_view(const uint8_t *scheme, size_t scheme_length, const uint8_t *network, size_t network_length,
+                        size_t v, size_t u, size_t o);
+
+#ifdef __cplusplus
+}
+#endif
+
+#endif

@@ -1,0 +1,67 @@
+//! The gatekeeper's calls for Rust. What gatekeeper.h asks of a caller, Rust's borrows keep: slices are valid for their
+//! lengths and aligned, and what is lent as `&mut` is lent to nobody else.
+
+mod c {
+    extern "C" {
+        pub fn gatekeeper_check(scheme: *const u8, scheme_length: usize) -> u8;
+        pub fn gatekeeper_fresh(scheme: *const u8, scheme_length: usize, network: *mut u8, network_length: usize) -> u8;
+        pub fn gatekeeper_event(
+            scheme: *const u8, scheme_length: usize, network: *mut u8, network_length: usize, v: usize, u: usize, a: usize,
+        ) -> u8;
+        pub fn gatekeeper_set(
+            scheme: *const u8, scheme_length: usize, network: *mut u8, network_length: usize, u: usize, r: usize, p: usize,
+        ) -> u8;
+        pub fn gatekeeper_find(
+            scheme: *const u8, scheme_length: usize, network: *const u8, network_length: usize, v: usize, u: usize,
+        ) -> u8;
+        pub fn gatekeeper_list(
+            scheme: *const u8, scheme_length: usize, network: *const u8, network_length: usize, v: usize, u: usize,
+            output: *mut u16, output_length: usize, count: *mut usize,
+        ) -> u8;
+        pub fn gatekeeper_view(
+            scheme: *const u8, scheme_length: usize, network: *const u8, network_length: usize, v: usize, u: usize, o: usize,
+        ) -> u8;
+    }
+}
+
+/// The scheme check.
+pub fn check(scheme: &[u8]) -> u8 {
+    unsafe { c::gatekeeper_check(scheme.as_ptr(), scheme.len()) }
+}
+
+/// Makes a network fresh.
+pub fn fresh(scheme: &[u8], network: &mut [u8]) -> u8 {
+    unsafe { c::gatekeeper_fresh(scheme.as_ptr(), scheme.len(), network.as_mut_ptr(), network.len()) }
+}
+
+/// Member v uses primitive a towards member u.
+pub fn event(scheme: &[u8], network: &mut [u8], v: usize, u: usize, a: usize) -> u8 {
+    unsafe { c::gatekeeper_event(scheme.as_ptr(), scheme.len(), network.as_mut_ptr(), network.len(), v, u, a) }
+}
+
+/// Member u chooses policy p for resource r.
+pub fn set(scheme: &[u8], network: &mut [u8], u: usize, r: usize, p: usize) -> u8 {
+    unsafe { c::gatekeeper_set(scheme.as_ptr(), scheme.len(), network.as_mut_ptr(), network.len(), u, r, p) }
+}
+
+/// Whether member v finds member u.
+pub fn find(scheme: &[u8], network: &[u8], v: usize, u: usize) -> u8 {
+    unsafe { c::gatekeeper_find(scheme.as_ptr(), scheme.len(), network.as_ptr(), network.len(), v, u) }
+}
+
+/// Member v asks for u's friends: their number, at the front of the output, or the refusal's number.
+pub fn list(scheme: &[u8], network: &[u8], v: usize, u: usize, output: &mut [u16]) -> Result<usize, u8> {
+    let mut count = 0;
+    let answer = unsafe {
+        c::gatekeeper_list(
+            scheme.as_ptr(), scheme.len(), network.as_ptr(), network.len(), v, u,
+            output.as_mut_ptr(), output.len(), &mut count,
+        )
+    };
+    if answer == 0 { Ok(count) } else { Err(answer) }
+}
+
+/// Member v asks for item o of member u.
+pub fn view(scheme: &[u8], network: &[u8], v: usize, u: usize, o: usize) -> u8 {
+    unsafe { c::gatekeeper_view(scheme.as_ptr(), scheme.len(), network.as_ptr(), network.len(), v, u, o) }
+}
