@@ -1,0 +1,248 @@
+//! Runs the library and a plain Rust program on the same requests, in one process, and compares answers and times: bench FOLDER
+//!
+//! A batch runs all requests of a file from the stored network, so often that it takes a millisecond. Before each run network
+//! and output are restored, within the measured time and for all programs alike; nothing is flushed from the processor's
+//! caches. Batches of the programs and of passes alternate, and medians of the thread's processor time are printed.
+
+#[path = "../library/gatekeeper.rs"]
+mod gatekeeper;
+mod plain;
+
+use std::hint::black_box;
+use std::time::{Duration, Instant};
+
+mod system {
+    #[repr(C)]
+    pub struct Time {
+        pub seconds: i64,
+        pub nanoseconds: i64,
+    }
+
+    extern "C" {
+        pub fn clock_gettime(clock: i32, time: *mut Time) -> i32;
+        pub fn mallopt(parameter: i32, value: i32) -> i32;
+    }
+}
+
+const UNTOUCHED: u16 = 999;
+const MOST_BATCHES: usize = 25;
+const LEAST_BATCHES: usize = 3;
+const LONGEST: Duration = Duration::from_millis(400);
+
+enum Request {
+    Event(usize, usize, usize),
+    Set(usize, usize, usize),
+    Find(usize, usize),
+    List(usize, usize),
+    View(usize, usize, usize),
+}
+
+fn parsed(line: &str) -> Request {
+    let mut words = line.split(' ');
+    let name = words.next().unwrap();
+    let numbers: Vec<usize> = words.map(|word| word.parse().expect("no number")).collect();
+    match (name, numbers.as_slice()) {
+        ("event", &[v, u, a]) => Request::Event(v, u, a),
+        ("set", &[u, r, p]) => Request::Set(u, r, p),
+        ("find", &[v, u]) => Request::Find(v, u),
+        ("list", &[v, u]) => Request::List(v, u),
+        ("view", &[v, u, o]) => Request::View(v, u, o),
+        _ => panic!("a request that cannot be read: {line}"),
+    }
+}
+
+struct Case {
+    name: String,
+    scheme: Vec<u8>,
+    network: Vec<u8>,
+    finds: Vec<Request>,
+    mix: Vec<Request>,
+}
+
+fn read_case(folder: &str, name: &str) -> Case {
+    let bytes = |kind| std::fs::read(format!("{folder}/{name}.{kind}")).expect("no such file");
+    let requests = |kind| String::from_utf8(bytes(kind)).expect("no text").lines().map(parsed).collect();
+    Case { name: name.to_string(), scheme: bytes("scheme"), network: bytes("network"), finds: requests("finds"), mix: requests("mix") }
+}
+
+/// What one of the two programs works on, and what it answered: a count where a list was granted.
+struct Run {
+    network: Vec<u8>,
+    output: [u16; 256],
+    answers: Vec<(u8, usize)>,
+}
+
+impl Run {
+    fn new(case: &Case) -> Run {
+        Run { network: case.network.clone(), output: [UNTOUCHED; 256], answers: Vec::with_capacity(1000) }
+    }
+
+    fn restore(&mut self, case: &Case) {
+        self.network.copy_from_slice(&case.network);
+        self.output = [UNTOUCHED; 256];
+        self.answers.clear();
+    }
+}
+
+fn listed(result: Result<usize, u8>) -> (u8, usize) {
+    match result {
+        Ok(count) => (0, count),
+        Err(number) => (number, 0),
+    }
+}
+
+fn ask_library(scheme: &[u8], run: &mut Run, request: &Request) -> (u8, usize) {
+    match *request {
+        Request::Event(v, u, a) => (gatekeeper::event(scheme, &mut run.network, v, u, a), 0),
+        Request::Set(u, r, p) => (gatekeeper::set(scheme, &mut run.network, u, r, p), 0),
+        Request::Find(v, u) => (gatekeeper::find(scheme, &run.network, v, u), 0),
+        Request::List(v, u) => listed(gatekeeper::list(scheme, &run.network, v, u, &mut run.output)),
+        Request::View(v, u, o) => (gatekeeper::view(scheme, &run.network, v, u, o), 0),
+    }
+}
+
+fn ask_plain<const LISTED: bool>(scheme: &[u8], run: &mut Run, request: &Request) -> (u8, usize) {
+    match *request {
+        Request::Event(v, u, a) => (plain::event::<LISTED>(scheme, &mut run.network, v, u, a), 0),
+        Request::Set(u, r, p) => (plain::set(scheme, &mut run.network, u, r, p), 0),
+        Request::Find(v, u) => (plain::find::<LISTED>(scheme, &run.network, v, u), 0),
+        Request::List(v, u) => listed(plain::list::<LISTED>(scheme, &run.network, v, u, &mut run.output)),
+        Request::View(v, u, o) => (plain::view::<LISTED>(scheme, &run.network, v, u, o), 0),
+    }
+}
+
+type Ask = fn(&[u8], &mut Run, &Request) -> (u8, usize);
+
+/// The library, the plain program that lists friends, and the one that reads them off the pair bytes.
+const PROGRAMS: [Ask; 3] = [ask_library, ask_plain::<true>, ask_plain::<false>];
+
+/// Compares every answer, every output and every byte of the network, request by request.
+fn compare(case: &Case, requests: &[Request], other: Ask) {
+    let (mut ours, mut theirs) = (Run::new(case), Run::new(case));
+    for (i, request) in requests.iter().enumerate() {
+        let answer = ask_library(&case.scheme, &mut ours, request);
+        assert_eq!(answer, other(&case.scheme, &mut theirs, request), "{} request {i}", case.name);
+        assert!(ours.network == theirs.network, "{} network after request {i}", case.name);
+        assert!(ours.output == theirs.output, "{} output after request {i}", case.name);
+    }
+}
+
+/// The thread's processor time in seconds: what other processes take does not count.
+fn processor_time() -> f64 {
+    const OF_THREAD: i32 = 3;
+    let mut time = system::Time { seconds: 0, nanoseconds: 0 };
+    unsafe { system::clock_gettime(OF_THREAD, &mut time) };
+    time.seconds as f64 + time.nanoseconds as f64 / 1e9
+}
+
+/// Seconds for each request of a batch.
+fn batch(case: &Case, requests: &[Request], run: &mut Run, ask: Ask, repeats: usize) -> f64 {
+    let start = processor_time();
+    for _ in 0..repeats {
+        run.restore(case);
+        for request in requests {
+            let answer = ask(black_box(&case.scheme), run, request);
+            run.answers.push(answer);
+        }
+    }
+    (processor_time() - start) / (repeats * requests.len()) as f64
+}
+
+fn median(times: &mut [f64]) -> f64 {
+    times.sort_by(f64::total_cmp);
+    times[times.len() / 2]
+}
+
+/// How often a batch is repeated so that it takes a millisecond or more.
+fn repeats(seconds: f64, requests: usize) -> usize {
+    (0.001 / (seconds * requests as f64)) as usize + 1
+}
+
+/// One pass over the bytes: their greatest, which the compiler finds sixteen at a time.
+#[inline(never)]
+fn greatest(bytes: &[u8]) -> u8 {
+    bytes.iter().fold(0, |most, &byte| if byte > most { byte } else { most })
+}
+
+/// Seconds for one pass over the network.
+fn pass(network: &[u8]) -> f64 {
+    let repeats = 4_000_000 / (network.len() + 100);
+    let start = processor_time();
+    for _ in 0..repeats {
+        black_box(greatest(black_box(network)));
+    }
+    (processor_time() - start) / repeats as f64
+}
+
+/// Medians of seconds for each request, of each program, and of one pass.
+fn measure(case: &Case, requests: &[Request]) -> ([f64; 3], f64) {
+    let mut runs = PROGRAMS.map(|_| Run::new(case));
+    let mut times = PROGRAMS.map(|_| Vec::new());
+    let mut passes = Vec::new();
+    let mut counts = [1; 3];
+    for (i, ask) in PROGRAMS.iter().enumerate() {
+        counts[i] = repeats(batch(case, requests, &mut runs[i], *ask, 1), requests.len());
+    }
+    let start = Instant::now();
+    while passes.len() < LEAST_BATCHES || passes.len() < MOST_BATCHES && start.elapsed() < LONGEST {
+        passes.push(pass(&case.network));
+        for (i, ask) in PROGRAMS.iter().enumerate() {
+            times[i].push(batch(case, requests, &mut runs[i], *ask, counts[i]));
+            assert!(runs[i].answers == runs[0].answers, "{}: answers of a batch", case.name);
+        }
+    }
+    (times.map(|mut of_program| median(&mut of_program)), median(&mut passes))
+}
+
+/// Whether a find on 256 members is as fast as wanted.
+fn verdict(name: &str, [library, lists, pairs]: [f64; 3], pass: f64) -> &'static str {
+    let reached = match name.split('_').next() {
+        _ if !name.ends_with("_256") => return "",
+        _ if name.contains("nested") => library < 0.05,
+        Some("dense") | Some("full") => lists >= 10.0 * library && library <= 12.0 * pass,
+        _ => lists.min(pairs) >= library,
+    };
+    if reached { "reached" } else { "NOT REACHED" }
+}
+
+fn print_line(case: &Case, kind: &str, requests: &[Request]) {
+    compare(case, requests, PROGRAMS[1]);
+    compare(case, requests, PROGRAMS[2]);
+    let (times, pass) = measure(case, requests);
+    let [library, lists, pairs] = times;
+    println!(
+        "{:<22} {:<5} {:>11.0} {:>11.0} {:>11.0} {:>8.2} {:>8.2} {:>10.2} {:>8.1}  {}",
+        case.name, kind, 1.0 / library, 1.0 / lists, 1.0 / pairs, lists / library, pairs / library, library * 1e6,
+        library / pass, if kind == "find" { verdict(&case.name, times, pass) } else { "" }
+    );
+}
+
+const EXPLAINED: &str = "\
+Requests a second of the library, of a plain Rust program that lists every member's friends once a request (lists), and of the
+same program where it reads them off the pair bytes (pairs); how many times as fast as each the library is; its time for a
+request in microseconds, and in passes over the network's bytes. Network and output are restored before each run of a file,
+within the measured time; caches are not flushed, and freed memory is kept. Wanted of a find on 256 members: dense and full, 10
+times as fast as lists and within 12 passes; sparse and chain, as fast as the faster of both; nested, below 50 milliseconds.
+";
+
+/// Has the allocator keep what is freed, so that the plain program does not pay for new pages at each request.
+fn keep_freed_memory() {
+    const TRIM_THRESHOLD: i32 = -1;
+    unsafe { system::mallopt(TRIM_THRESHOLD, 1 << 28) };
+}
+
+fn main() {
+    keep_freed_memory();
+    let folder = std::env::args().nth(1).expect("bench FOLDER");
+    let names = std::fs::read_to_string(format!("{folder}/names")).expect("no names");
+    println!("{EXPLAINED}");
+    println!(
+        "{:<22} {:<5} {:>11} {:>11} {:>11} {:>8} {:>8} {:>10} {:>8}",
+        "graph, scheme, members", "", "library/s", "lists/s", "pairs/s", "x lists", "x pairs", "library us", "passes"
+    );
+    for name in names.lines() {
+        let case = read_case(&folder, name);
+        print_line(&case, "find", &case.finds);
+        print_line(&case, "mix", &case.mix);
+    }
+}
