@@ -1,11 +1,9 @@
 // The calls for other languages, on numbers and lent slices. A slice stands in C as a pointer and a count of elements.
-use requests::Listed;
-ghost use mathlib.Core.Path.{_≡_};
 ghost use Rattle.model.specs.Answers.{Answers};
 ghost use Rattle.model.specs.Calls.{Called, Freshened};
 ghost use Rattle.model.specs.Requests.{event, set-policy, find, view};
 ghost use Rattle.model.specs.SchemeBytes.{schemeNeeds};
-ghost use Rattle.requests.specs.Answered.{answered, numberOf, countOf};
+ghost use Rattle.requests.specs.Answered.{answered};
 ghost use Rattle.gatekeeper.specs.Listing.{ListAnswered};
 
 // The scheme check.
@@ -60,26 +58,6 @@ pub extern "C" fn gatekeeper_find(scheme: &[u8], network: &[u8], v: usize, u: us
     requests::find(scheme, network, v, u)
 }
 
-// Document 01's number of a list's answer.
-fn number(listed: Listed) -> u8
-    ensures { λ k. ⌜ k ≡ numberOf listed ⌝ }
-{
-    match listed {
-        Listed::Friends(_) => 0,
-        Listed::Refused(k) => k,
-    }
-}
-
-// How many friends a list wrote; 0 where it was refused.
-fn written(listed: Listed) -> usize
-    ensures { λ r. ⌜ r ≡ countOf listed ⌝ }
-{
-    match listed {
-        Listed::Friends(r) => r,
-        Listed::Refused(_) => 0,
-    }
-}
-
 // List: v asks for u's friends. Only a grant writes the count.
 #[no_mangle]
 pub extern "C" fn gatekeeper_list(
@@ -92,10 +70,10 @@ pub extern "C" fn gatekeeper_list(
 ) -> u8
     ensures { λ k. ⌜ ListAnswered (now (scheme .entry)) (now (network .entry)) v u (now (output .entry)) (now (count .entry)) k (now (output .exit)) (now (count .exit)) ⌝ }
 {
-    let listed = requests::list(scheme, network, v, u, output);
-    let answer = number(listed);
+    let reply = requests::some_written(requests::list(scheme, network, v, u, output));
+    let answer = reply.answer;
     if answer == 0 {
-        *count = written(listed);
+        *count = reply.count;
     }
     answer
 }
