@@ -164,14 +164,31 @@ fn greatest(bytes: &[u8]) -> u8 {
     bytes.iter().fold(0, |most, &byte| if byte > most { byte } else { most })
 }
 
-/// Seconds for one pass over the network.
+/// The same, by the greatest of each 64th byte.
+#[inline(never)]
+fn greatest_of_lanes(bytes: &[u8]) -> u8 {
+    let mut lanes = [0; 64];
+    let chunks = bytes.chunks_exact(64);
+    let rest = chunks.remainder();
+    for chunk in chunks {
+        for i in 0..64 {
+            lanes[i] = lanes[i].max(chunk[i]);
+        }
+    }
+    greatest(&lanes).max(greatest(rest))
+}
+
+/// Seconds for one pass over the network: the faster of both, since where the linker places so small a loop can double its time.
 fn pass(network: &[u8]) -> f64 {
     let repeats = 4_000_000 / (network.len() + 100);
-    let start = processor_time();
-    for _ in 0..repeats {
-        black_box(greatest(black_box(network)));
-    }
-    (processor_time() - start) / repeats as f64
+    let seconds = |of: fn(&[u8]) -> u8| {
+        let start = processor_time();
+        for _ in 0..repeats {
+            black_box(of(black_box(network)));
+        }
+        (processor_time() - start) / repeats as f64
+    };
+    seconds(greatest).min(seconds(greatest_of_lanes))
 }
 
 /// Medians of seconds for each request, of each program, and of one pass.
