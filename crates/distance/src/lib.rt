@@ -22,12 +22,12 @@ fn clear(distances: &mut [u16])
     }
 }
 
-// The first member without a mark, or the number of members.
-fn unmarked(members: usize, distances: &[u16]) -> usize
-    requires { ⌜ members ≤ length (now distances) ⌝ }
+// The first member without a mark, or the number of members; all before from have one.
+fn unmarked(members: usize, distances: &[u16], from: usize) -> usize
+    requires { ⌜ (members ≤ length (now distances)) × Marked members (now distances) from ⌝ }
     ensures { λ r. ⌜ Marked members (now (distances .entry)) r ⌝ }
 {
-    let mut k: usize = 0;
+    let mut k = from;
     while k < members {
         if distances[k] == 0 {
             return k;
@@ -74,11 +74,12 @@ fn layer(
     requires { ⌜ Ready (now scheme) c (now network) × MarksOf (now scheme) (c .states) marks × (0 < mark) × (mark ≤ 255) × (length (now distances) ≡ 256) ⌝ }
     ensures { λ r. ⌜ Layered (graphOf (now (scheme .entry)) (now (network .entry))) mark (now (distances .entry)) (c .members) (now (distances .exit)) r ⌝ }
 {
-    let from = unmarked(c.members, distances);
+    let mut from: usize = 0;
     let mut some = false;
     let mut m: usize = 0;
     while m < c.members {
         if distances[m] == mark {
+            from = unmarked(c.members, distances, from);
             spread(scheme, c, marks, network, m, mark + 1, from, distances);
             some = true;
         }

@@ -49,5 +49,5 @@ pub fn friends(scheme: &[u8], c: Counts, marks: u16, network: &[u8], u: usize, v
         return false;
     }
     let q = state(scheme, c, network, u, v);
-    tables::offered(marks as u32, records::wide(q))
+    (marks >> (q % 16)) & 1 == 1
 }

@@ -124,6 +124,9 @@ fn found(scheme: &[u8], c: Counts, network: &[u8], v: usize, u: usize) -> bool
     ensures { λ r. ⌜ Decides r (Finds (worldOf (now (scheme .entry)) (now (network .entry))) v u) ⌝ }
 {
     let marks = tables::marks(scheme, c);
+    if network::read::friends(scheme, c, marks, network, v, u) {
+        return true; // nothing has to be prepared for a friend
+    }
     let mut distances = no_distances();
     let mut rows = no_rows();
     policies::prepare(scheme, c, marks, network, v, &mut distances, &mut rows);

@@ -2,41 +2,46 @@ use Prim.Native.Nat.{_-_, _≤_}
 use mathlib.Core.Path.{_≡_}
 use mathlib.Core.Logic.{⊎-elim}
 use native.Mathlib.Omega.{arith}
+use borrow.Author.Count.{below-none}
 use Rattle.network.specs.Ready.{graphOf}
 use Rattle.network.proofs.Reading.{ready-range}
-use Rattle.distance.specs.Marks.{Layered}
+use Rattle.distance.specs.Marks.{Layered, Marked}
 use Rattle.distance.proofs.Spreading.{layer-pass, layer-hit, spread-none, still-marked}
 use Rattle.distance.proofs.layer.Statement.{statement}
 use Rattle.distance.proofs.layer.Tie as tie
 
 abbrev Inv-loop : tie.InvT-loop
-Inv-loop scheme c marks network mark distances₀ from some₀ m₀ distances some m = (m ≤ c .members) × Layered (graphOf scheme network) mark distances₀ m distances some
+Inv-loop scheme c marks network mark distances₀ from₀ some₀ m₀ distances from some m = (m ≤ c .members) × Layered (graphOf scheme network) mark distances₀ m distances some × Marked (c .members) distances from
 
 abbrev μ-loop : tie.MeasureT-loop
-μ-loop scheme c marks network mark distances₀ from some₀ m₀ distances some m = c .members - m
-
-unmarked-requires : tie.Need-unmarked-requires Inv-loop μ-loop
-unmarked-requires c κs = omega (arith, ready-range (c .before .before .before .before .pre .0))
+μ-loop scheme c marks network mark distances₀ from₀ some₀ m₀ distances from some m = c .members - m
 
 loop-holds : tie.Need-loop-holds Inv-loop μ-loop
-loop-holds c =
-    (omega arith, record { spread = spread-none (c .before .before .before .before .before .pre .4) (λ j k t. absurd (omega (arith, t .0))); nobody = λ e j l. absurd (omega arith) })
+loop-holds c = (
+  omega arith,
+  record { spread = spread-none (c .before .before .before .pre .4) (λ j k t. absurd (omega (arith, t .0))); nobody = λ e j l. absurd (omega arith) },
+  record { inside = omega arith; below = below-none _ },
+)
 
 mul-if2 : tie.Need-mul-if2 Inv-loop μ-loop
 mul-if2 c = omega arith
 
 slice-read-if2 : tie.Need-slice-read-if2 Inv-loop μ-loop
-slice-read-if2 c = omega (arith, ready-range (c .before .before .before .before .before .before .before .before .before .pre .0), c .before .before .before .loop .inv .1 .spread .size)
+slice-read-if2 c = omega (arith, ready-range (c .before .before .before .before .before .before .before .pre .0), c .before .before .before .loop .inv .1 .spread .size)
+
+unmarked-requires : tie.Need-unmarked-requires Inv-loop μ-loop
+unmarked-requires c κs =
+    let l = c .before .before .before .before .before in
+    (omega (arith, ready-range (l .before .before .before .before .pre .0), l .loop .inv .1 .spread .size), l .loop .inv .2)
 
 add-spread : tie.Need-add-spread Inv-loop μ-loop
 add-spread c = omega arith
 
 spread-requires : tie.Need-spread-requires Inv-loop μ-loop
 spread-requires c κs =
-    let l = c .before .before .before .before .before in
-    let s = l .before .before .before .before .before .before in
-    let x = l .loop .inv .1 .spread in
-    (s .pre .0, s .pre .1, omega arith, omega arith, x .size, still-marked x (omega arith) (omega (arith, s .pre .0 .counts .members)) (l .before .unmarked .ensures))
+    let l = c .before .before .before .before .before .before .before in
+    let s = l .before .before .before .before in
+    (s .pre .0, s .pre .1, omega arith, omega arith, l .loop .inv .1 .spread .size, c .before .unmarked .ensures)
 
 add-m : tie.Need-add-m Inv-loop μ-loop
 add-m c = omega arith
@@ -47,15 +52,17 @@ loop-less c = omega arith
 loop-again : tie.Need-loop-again Inv-loop μ-loop
 loop-again c =
     let l = c .before .before .before .before in
-    let s = l .before .before .before .before .before .before in
+    let s = l .before .before .before .before in
     let x = l .loop .inv .1 in
-    let e = s .pre .0 .counts .members in (
+    let e = s .pre .0 .counts .members in
+    ⊎-elim
+    (λ w. rw (w .7, w .8, w .9) (
       omega arith,
-      ⊎-elim
-          (λ w. rw (w .5, w .6) (layer-hit x (s .pre .2) (omega arith) (w .0 .taken) (w .2 .ensures)))
-          (λ w. rw (w .1, w .2) (layer-pass x (s .pre .2) (omega arith) (w .0 .left)))
-          (c .if2 .came),
-    )
+      layer-hit x (s .pre .2) (omega arith) (w .0 .taken) (w .4 .ensures),
+      still-marked (w .4 .ensures) (omega arith) (omega arith) (w .2 .ensures),
+    ))
+    (λ w. rw (w .1, w .2, w .3) (omega arith, layer-pass x (s .pre .2) (omega arith) (w .0 .left), l .loop .inv .2))
+    (c .if2 .came)
 
 same-length : tie.Need-same-length Inv-loop μ-loop
 same-length c = omega (arith, c .before .before .loop .inv .1 .spread .size)
@@ -63,7 +70,7 @@ same-length c = omega (arith, c .before .before .loop .inv .1 .spread .size)
 returns : tie.Need-returns Inv-loop μ-loop
 returns c =
     let l = c .before .before .loop in
-    let e : l .m ≡ c .before .before .before .before .before .before .before .before .args .c .members = omega arith in
+    let e : l .m ≡ c .before .before .before .before .before .before .args .c .members = omega arith in
     rw e at (l .inv .1)
 
 pub layer-spec : {M : Type 1} → statement M
@@ -72,10 +79,10 @@ layer-spec =
     (tie.spec
     Inv-loop
     μ-loop
-    unmarked-requires
     loop-holds
     mul-if2
     slice-read-if2
+    unmarked-requires
     add-spread
     spread-requires
     add-m

@@ -1,18 +1,18 @@
 use Prim.Native.Nat.{ℕ, _-_, _<_, _≤_}
 use native.Mathlib.Omega.{arith}
-use borrow.Author.Count.{below-none, below-more}
+use borrow.Author.Count.{below-more}
 use lib.ListN.{getD}
 use Rattle.distance.proofs.unmarked.Statement.{statement}
 use Rattle.distance.proofs.unmarked.Tie as tie
 
 abbrev Inv-loop : tie.InvT-loop
-Inv-loop members distances k₀ k = (k ≤ members) × ((j : ℕ) → j < k → 0 < getD distances j 0)
+Inv-loop members distances from k₀ k = (k ≤ members) × ((j : ℕ) → j < k → 0 < getD distances j 0)
 
 abbrev μ-loop : tie.MeasureT-loop
-μ-loop members distances k₀ k = members - k
+μ-loop members distances from k₀ k = members - k
 
 loop-holds : tie.Need-loop-holds Inv-loop μ-loop
-loop-holds c = (omega arith, below-none _)
+loop-holds c = (c .pre .1 .inside, c .pre .1 .below)
 
 mul-if1 : tie.Need-mul-if1 Inv-loop μ-loop
 mul-if1 c = omega arith

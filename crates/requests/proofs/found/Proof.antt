@@ -1,3 +1,7 @@
+use mathlib.Core.Path.{refl, sym, _∙_}
+use mathlib.Core.List.{[]}
+use mathlib.Core.Logic.{inl, inr}
+use native.Mathlib.Omega.{arith}
 use Rattle.network.proofs.Reading.{ready-read}
 use borrow.Author.Needs.{needs}
 use Rattle.requests.proofs.found.Statement.{statement}
@@ -5,6 +9,15 @@ use Rattle.requests.proofs.found.Tie as tie
 
 marks-requires : tie.Need-marks-requires
 marks-requires c κs = ready-read (c .before .before .pre .0)
+
+friends-requires : tie.Need-friends-requires
+friends-requires c κs = search needs
+
+returns : tie.Need-returns
+returns c =
+    let s = c .before .before .before .before .before in
+    let e = s .pre .0 .counts .members in
+    (s .args .u, [], (omega arith, inr (inl (sym (c .before .friends .ensures) ∙ c .if1 .taken))), refl)
 
 no-distances-requires : tie.Need-no-distances-requires
 no-distances-requires c κs = search needs
@@ -30,14 +43,16 @@ slice-aggregate-finds-2 c = search needs
 finds-requires : tie.Need-finds-requires
 finds-requires c κs = search needs
 
-returns : tie.Need-returns
-returns c = search needs
+returns-2 : tie.Need-returns-2
+returns-2 c = search needs
 
 pub found-spec : {M : Type 1} → statement M
 found-spec =
     tie.close
     (tie.spec
     marks-requires
+    friends-requires
+    returns
     no-distances-requires
     no-rows-requires
     slice-aggregate-prepare
@@ -46,4 +61,4 @@ found-spec =
     slice-aggregate-finds
     slice-aggregate-finds-2
     finds-requires
-    returns)
+    returns-2)

@@ -1,6 +1,10 @@
-use mathlib.Core.Path.{sym, ap, _∙_}
+use Prim.Native.Nat.{ℕ, _%_}
+use mathlib.Core.Path.{_≡_, sym, ap, _∙_}
+use native.Mathlib.Omega.{arith}
+use lib.Dec.{eqb}
 use Rattle.model.specs.Bytes.{bit}
-use Rattle.network.proofs.Reading.{friends-marked, friends-own}
+use Rattle.model.proofs.Bits.{shr-and-one}
+use Rattle.network.proofs.Reading.{friends-marked, friends-own, ready-range}
 use borrow.Author.Needs.{needs}
 use Rattle.network.proofs.read.friends.Statement.{statement}
 use Rattle.network.proofs.read.friends.Tie as tie
@@ -13,19 +17,20 @@ returns c =
 state-requires : tie.Need-state-requires
 state-requires c κs = search needs
 
-wide-requires : tie.Need-wide-requires
-wide-requires c κs = search needs
+cast-result : tie.Need-cast-result
+cast-result c = search needs
 
-offered-requires : tie.Need-offered-requires
-offered-requires c κs = search needs
+shr-result : tie.Need-shr-result
+shr-result c = search needs
 
 returns-2 : tie.Need-returns-2
 returns-2 c =
-    let s = c .before .before .before .before .before .before in
-    let q = c .before .before .state in
-    c .offered .ensures
-    ∙ ap (bit (s .args .marks)) (c .before .wide .ensures .0)
-    ∙ friends-marked (s .pre .0) (s .args .marks) (s .args .u) (s .args .v) (q .result) (s .pre .1) (s .pre .2) (s .pre .3) (c .before .before .before .if1 .left) (q .ensures .0) (q .ensures .1)
+    let s = c .before .before .before .before in
+    let q = c .state in
+    let e : q .result % 16 ≡ q .result = omega (arith, ready-range (s .pre .0)) in
+    ap (λ (y : ℕ). eqb y 1) (shr-and-one (s .args .marks) (q .result % 16))
+    ∙ ap (bit (s .args .marks)) e
+    ∙ friends-marked (s .pre .0) (s .args .marks) (s .args .u) (s .args .v) (q .result) (s .pre .1) (s .pre .2) (s .pre .3) (c .before .if1 .left) (q .ensures .0) (q .ensures .1)
 
 pub friends-spec : {M : Type 1} → statement M
-friends-spec = tie.close (tie.spec returns state-requires wide-requires offered-requires returns-2)
+friends-spec = tie.close (tie.spec returns state-requires cast-result shr-result returns-2)
