@@ -56,6 +56,8 @@ def compare_scheme(rng):
     if rng.randrange(4) == 0:
         scheme = cases.damaged(rng, scheme)
     expect('check', gatekeeper.check(scheme), ref.check(scheme))
+    length = ref.network_length(ref.read_scheme(scheme)[1].counts) if ref.check(scheme) == 0 else 0
+    expect('length', gatekeeper.network_length(scheme), length)
     network = bytearray(rng.randrange(256) for _ in range(rng.randrange(200)))
     if ref.check(scheme) == 0:
         network = random_network(rng, scheme)

@@ -1,4 +1,4 @@
-/* The gatekeeper's calls for C (crates/gatekeeper). Every call answers document 01's number: 0 is a grant.
+/* The gatekeeper's calls for C (crates/gatekeeper). Every call but that for a length answers document 01's number: 0 is a grant.
  *
  * The calls are proved for any bytes and any numbers. What follows is asked of the caller, and nothing checks it here:
  *
@@ -24,7 +24,10 @@ extern "C" {
 /* The scheme check: 0 to 4. */
 uint8_t gatekeeper_check(const uint8_t *scheme, size_t scheme_length);
 
-/* Makes a network fresh: 0 to 5. Its length is n(n - 1)/2 + n(2 + A + I). Its old bytes are not read, but they must be there. */
+/* How many bytes a network has under an accepted scheme; 0 under any other. */
+size_t gatekeeper_network_length(const uint8_t *scheme, size_t scheme_length);
+
+/* Makes a network fresh: 0 to 5. Its old bytes are not read, but they must be there. */
 uint8_t gatekeeper_fresh(const uint8_t *scheme, size_t scheme_length, uint8_t *network, size_t network_length);
 
 /* Member v uses primitive a towards member u. Only a grant writes: the state of their pair. */

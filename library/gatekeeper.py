@@ -17,15 +17,15 @@ _library = ctypes.PyDLL(os.environ.get('GATEKEEPER_LIBRARY', _DEFAULT))     # Py
 _BYTES = [ctypes.c_void_p, ctypes.c_size_t]
 _NUMBER = [ctypes.c_size_t]
 _SIGNATURES = {
-    'check': _BYTES, 'fresh': 2 * _BYTES, 'event': 2 * _BYTES + 3 * _NUMBER, 'set': 2 * _BYTES + 3 * _NUMBER,
-    'find': 2 * _BYTES + 2 * _NUMBER, 'view': 2 * _BYTES + 3 * _NUMBER,
+    'check': _BYTES, 'network_length': _BYTES, 'fresh': 2 * _BYTES, 'find': 2 * _BYTES + 2 * _NUMBER,
+    'event': 2 * _BYTES + 3 * _NUMBER, 'set': 2 * _BYTES + 3 * _NUMBER, 'view': 2 * _BYTES + 3 * _NUMBER,
     'list': 2 * _BYTES + 2 * _NUMBER + _BYTES + [ctypes.POINTER(ctypes.c_size_t)],
 }
 _calls = {}
 for _name, _arguments in _SIGNATURES.items():
     _calls[_name] = getattr(_library, 'gatekeeper_' + _name)
     _calls[_name].argtypes = _arguments
-    _calls[_name].restype = ctypes.c_uint8
+    _calls[_name].restype = ctypes.c_size_t if _name == 'network_length' else ctypes.c_uint8
 
 _LARGEST = 2 ** (8 * ctypes.sizeof(ctypes.c_size_t)) - 1
 
@@ -85,6 +85,12 @@ def check(scheme):
     """The scheme check."""
     lent = _Lent(scheme, False, 'scheme')
     return _calls['check'](lent.at, lent.length)
+
+
+def network_length(scheme):
+    """How many bytes a network has under an accepted scheme; 0 under any other."""
+    lent = _Lent(scheme, False, 'scheme')
+    return _calls['network_length'](lent.at, lent.length)
 
 
 def fresh(scheme, network):

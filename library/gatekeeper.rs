@@ -4,6 +4,7 @@
 mod c {
     extern "C" {
         pub fn gatekeeper_check(scheme: *const u8, scheme_length: usize) -> u8;
+        pub fn gatekeeper_network_length(scheme: *const u8, scheme_length: usize) -> usize;
         pub fn gatekeeper_fresh(scheme: *const u8, scheme_length: usize, network: *mut u8, network_length: usize) -> u8;
         pub fn gatekeeper_event(
             scheme: *const u8, scheme_length: usize, network: *mut u8, network_length: usize, v: usize, u: usize, a: usize,
@@ -27,6 +28,11 @@ mod c {
 /// The scheme check.
 pub fn check(scheme: &[u8]) -> u8 {
     unsafe { c::gatekeeper_check(scheme.as_ptr(), scheme.len()) }
+}
+
+/// How many bytes a network has under an accepted scheme; 0 under any other.
+pub fn network_length(scheme: &[u8]) -> usize {
+    unsafe { c::gatekeeper_network_length(scheme.as_ptr(), scheme.len()) }
 }
 
 /// Makes a network fresh.

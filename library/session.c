@@ -31,13 +31,6 @@ static void read_scheme(const char *name)
         fail("the scheme is refused");
 }
 
-/* Members stand at byte 4 of an accepted scheme, primitives at 7, items at 8. */
-static size_t length_of_network(void)
-{
-    size_t members = scheme[4] + 256 * (size_t)scheme[5];
-    return members * (members - 1) / 2 + members * (2 + (size_t)scheme[7] + (size_t)scheme[8]);
-}
-
 static void print_list(int position, size_t v, size_t u)
 {
     size_t count = 0;
@@ -67,7 +60,7 @@ int main(int count, char **arguments)
     if (count != 3)
         fail("session SCHEME REQUESTS");
     read_scheme(arguments[1]);
-    network_length = length_of_network();
+    network_length = gatekeeper_network_length(scheme, scheme_length);
     if (gatekeeper_fresh(scheme, scheme_length, network, network_length) != 0)
         fail("no fresh network");
 

@@ -6,12 +6,6 @@ from array import array
 import gatekeeper
 
 
-def network_length(scheme):
-    """Members stand at byte 4 of an accepted scheme, primitives at 7, items at 8."""
-    members = scheme[4] + 256 * scheme[5]
-    return members * (members - 1) // 2 + members * (2 + scheme[7] + scheme[8])
-
-
 def answer_line(scheme, network, name, numbers):
     """What is printed of a request after its position."""
     if name == 'list':
@@ -27,7 +21,7 @@ def main(scheme_file, requests_file):
         scheme = file.read()
     if gatekeeper.check(scheme) != 0:
         sys.exit('the scheme is refused')
-    network = bytearray(network_length(scheme))
+    network = bytearray(gatekeeper.network_length(scheme))
     if gatekeeper.fresh(scheme, network) != 0:
         sys.exit('no fresh network')
     with open(requests_file) as file:

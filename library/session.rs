@@ -2,12 +2,6 @@
 
 mod gatekeeper;
 
-/// Members stand at byte 4 of an accepted scheme, primitives at 7, items at 8.
-fn network_length(scheme: &[u8]) -> usize {
-    let members = usize::from(scheme[4]) + 256 * usize::from(scheme[5]);
-    members * (members - 1) / 2 + members * (2 + usize::from(scheme[7]) + usize::from(scheme[8]))
-}
-
 /// What is printed of a request after its position.
 fn answer_line(scheme: &[u8], network: &mut [u8], name: &str, numbers: &[usize]) -> String {
     match (name, numbers) {
@@ -31,7 +25,7 @@ fn main() {
     let scheme = std::fs::read(&files[0]).expect("no scheme");
     let requests = std::fs::read_to_string(&files[1]).expect("no requests");
     assert_eq!(gatekeeper::check(&scheme), 0, "the scheme is refused");
-    let mut network = vec![0; network_length(&scheme)];
+    let mut network = vec![0; gatekeeper::network_length(&scheme)];
     assert_eq!(gatekeeper::fresh(&scheme, &mut network), 0, "no fresh network");
     for (i, line) in requests.lines().enumerate() {
         let mut words = line.split_whitespace();

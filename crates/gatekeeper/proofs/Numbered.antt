@@ -11,11 +11,22 @@ use Rattle.scheme.specs.declared.Reading.the-variants.{Accepted, Refused as Unr
 use Rattle.requests.specs.Answered.{numberOf, countOf, ListCalled}
 use Rattle.requests.specs.declared.Listed.{Listed}
 use Rattle.requests.specs.declared.Listed.the-variants.{Friends, Refused}
+use Rattle.model.proofs.Answering.{answers-unique}
+use Rattle.gatekeeper.specs.Length.{LengthOf}
 use Rattle.gatekeeper.specs.Listing.{ListAnswered}
 
 pub check-number : (b : List ℕ) (x : Reading) {k : ℕ} → Checked b x → k ≡ readingNumber x → Answers (schemeNeeds b) k
 check-number b (Accepted c) h e = rw e (h .0)
 check-number b (Unread number) h e = rw e (h .0)
+
+-- a refused scheme has no network
+pub none-refused : (b : List ℕ) {x : Reading} {k : ℕ} → x ≡ Unread k → Checked b x → LengthOf b 0
+none-refused b {x} {k} e h =
+    let c : Checked b (Unread k) = rw e at h in
+    record {
+      accepted = λ a. absurd (omega (arith, c .1, answers-unique (schemeNeeds b) k 0 (c .0) a));
+      refused = λ n. refl;
+    }
 
 module _ (b net : List ℕ) (v u : ℕ) (out : List ℕ) (count : ℕ) (after : List ℕ) where
   -- granted, and the count written

@@ -1,9 +1,11 @@
 // The calls for other languages, on numbers and lent slices. A slice stands in C as a pointer and a count of elements.
+use scheme::Reading;
 ghost use Rattle.model.specs.Answers.{Answers};
 ghost use Rattle.model.specs.Calls.{Called, Freshened};
 ghost use Rattle.model.specs.Requests.{event, set-policy, find, view};
 ghost use Rattle.model.specs.SchemeBytes.{schemeNeeds};
 ghost use Rattle.requests.specs.Answered.{answered};
+ghost use Rattle.gatekeeper.specs.Length.{LengthOf};
 ghost use Rattle.gatekeeper.specs.Listing.{ListAnswered};
 
 // The scheme check.
@@ -12,6 +14,18 @@ pub extern "C" fn gatekeeper_check(scheme: &[u8]) -> u8
     ensures { λ k. ⌜ Answers (schemeNeeds (now (scheme .entry))) k ⌝ }
 {
     scheme::number(scheme::check(scheme))
+}
+
+// How many bytes a network has under an accepted scheme; 0 under any other.
+#[no_mangle]
+pub extern "C" fn gatekeeper_network_length(scheme: &[u8]) -> usize
+    ensures { λ r. ⌜ LengthOf (now (scheme .entry)) r ⌝ }
+{
+    let reading = scheme::check(scheme);
+    let Reading::Accepted(c) = reading else {
+        return 0;
+    };
+    network::read::size(scheme, c)
 }
 
 // Fresh: makes a lent network fresh.

@@ -59,7 +59,7 @@ pub fn fresh(scheme: &[u8], network: &mut [u8]) -> u8
         return scheme::number(reading);
     };
     let pairs = read::pairs(counts.members);
-    if network.len() != pairs + counts.members * tables::resources(counts) {
+    if network.len() != read::size(scheme, counts) {
         return 5;
     }
     clear(network, pairs);

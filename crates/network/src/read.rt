@@ -2,9 +2,9 @@
 use tables::Counts;
 ghost use mathlib.Core.Path.{_≡_};
 ghost use Prim.Native.Nat.{_+_, _<_, _≤_};
-ghost use Rattle.model.specs.Network.{held, stateOf, pairs as pairCount};
+ghost use Rattle.model.specs.Network.{held, stateOf, pairs as pairCount, size as sizeOf};
 ghost use Rattle.model.specs.SchemeBytes.{schemeOf};
-ghost use Rattle.tables.specs.Read.{MarksOf};
+ghost use Rattle.tables.specs.Read.{ReadAs, MarksOf};
 ghost use Rattle.network.specs.Ready.{Ready, graphOf};
 
 // How many pairs members have.
@@ -16,6 +16,14 @@ pub fn pairs(members: usize) -> usize
         return 0;
     }
     members * (members - 1) / 2
+}
+
+// How many bytes a network has.
+pub fn size(scheme: &[u8], c: Counts) -> usize
+    requires { ⌜ ReadAs (now scheme) c ⌝ }
+    ensures { λ r. ⌜ (r ≡ sizeOf (schemeOf (now (scheme .entry)))) × (pairCount (c .members) ≤ r) × (r ≤ 39296) ⌝ }
+{
+    pairs(c.members) + c.members * tables::resources(c)
 }
 
 // The state of two members; 0 where they are one.

@@ -70,7 +70,7 @@ pub fn valid(scheme: &[u8], c: Counts, network: &[u8]) -> bool
     ensures { λ r. ⌜ Decides r (Valid (schemeOf (now (scheme .entry))) (now (network .entry))) ⌝ }
 {
     let pairs = read::pairs(c.members);
-    let end = pairs + c.members * tables::resources(c);
+    let end = read::size(scheme, c);
     if network.len() != end {
         return false;
     }

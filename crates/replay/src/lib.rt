@@ -32,7 +32,7 @@ pub fn begin(scheme: &[u8], log: &[u8], network: &mut [u8]) -> Start
     if log.len() > 16384 {
         return Start::Refused(15);
     }
-    let size = network::read::pairs(c.members) + c.members * tables::resources(c);
+    let size = network::read::size(scheme, c);
     if network.len() < size {
         return Start::Refused(5);
     }

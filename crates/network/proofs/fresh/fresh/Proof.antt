@@ -1,13 +1,11 @@
-use Prim.Native.Nat.{_+_, _*_, _≤_}
-use mathlib.Core.Path.{_≡_, sym, _∙_}
+use mathlib.Core.Path.{refl, sym, _∙_}
 use native.Mathlib.Omega.{arith}
-use borrow.Author.Needs.{needs}
-use Rattle.model.specs.Network.{size}
-use Rattle.model.specs.SchemeBytes.{schemeOf, Accepted}
+use Rattle.model.specs.SchemeBytes.{Accepted}
 use Rattle.tables.specs.Read.{ReadAs}
 use Rattle.network.proofs.Filling.{laid, fresh-refused, fresh-sized, fresh-made}
 use Rattle.scheme.proofs.Accepting.{checked-read}
-use Rattle.network.proofs.Validity.{settings-end, settings-small}
+use Rattle.network.proofs.Validity.{settings-end}
+use borrow.Author.Needs.{needs}
 use Rattle.network.proofs.fresh.fresh.Statement.{statement}
 use Rattle.network.proofs.fresh.fresh.Tie as tie
 
@@ -37,46 +35,31 @@ known c = checked-read (c .before .before .before .before .before .before .args 
 pairs-requires : tie.Need-pairs-requires
 pairs-requires c κs = omega (arith, known c .1 .range)
 
-resources-requires : tie.Need-resources-requires
-resources-requires c κs = known (c .before) .1 .range
-
--- where the settings end
-ends : (c : tie.After-resources)
-    → let settings = c .before .before .before .reading .given .0 .0 .members * c .resources .result in
-    (c .before .pairs .result + settings ≡ size (schemeOf (c .before .before .before .before .before .before .before .before .args .scheme .now))) × (settings ≤ 6656)
-ends c =
-    let h = known (c .before .before) .1 in
-    let f = c .before .pairs .ensures .0 in
-    let e = c .resources .ensures .0 in
-    (settings-end h f e, settings-small h f e)
-
-mul-if1 : tie.Need-mul-if1
-mul-if1 c = omega (arith, ends (c .before))
-
-add-if1 : tie.Need-add-if1
-add-if1 c = omega (arith, ends (c .before))
+size-requires : tie.Need-size-requires
+size-requires c κs = known (c .before) .1
 
 returns-2 : tie.Need-returns-2
 returns-2 c =
-    let a = c .before .before .before .before .before .before .before .before .before .before .args in
-    fresh-sized (a .scheme .now) (a .network .now) (known (c .before .before .before .before) .0) (λ l. c .if1 .taken (l ∙ sym (ends (c .before .before) .0)))
+    let a = c .before .before .before .before .before .before .before .before .before .args in
+    fresh-sized (a .scheme .now) (a .network .now) (known (c .before .before .before) .0) (λ l. c .if1 .taken (l ∙ sym (c .before .size .ensures .0)))
 
 clear-requires : tie.Need-clear-requires
 clear-requires c κs = search needs
 
 fill-requires : tie.Need-fill-requires
 fill-requires c κs =
-    (known (c .before .before .before .before .before .before .before .before .before) .1, rw (← c .before .before .before .before .before .before .before .resources .ensures .0) (omega (arith, c .before .before .before .clear .ensures .long, c .before .before .before .before .before .if1 .left)))
+    let h = known (c .before .before .before .before .before .before .before .before) .1 in
+    (h, omega (arith, settings-end h (c .before .before .before .before .before .before .before .pairs .ensures .0) refl, c .before .before .before .clear .ensures .long, c .before .before .before .before .before .if1 .left, c .before .before .before .before .before .before .size .ensures .0))
 
 same-length : tie.Need-same-length
 same-length c = search needs
 
 returns-3 : tie.Need-returns-3
 returns-3 c =
-    let a = c .before .before .before .before .before .before .before .before .before .before .before .before .before .before .before .before .before .before .args in
-    let h = known (c .before .before .before .before .before .before .before .before .before .before .before .before) in
-    let e = c .before .before .before .before .before .before .before .before .before .before .before .pairs .ensures .0 in
-    let l = c .before .before .before .before .before .before .before .before .if1 .left ∙ ends (c .before .before .before .before .before .before .before .before .before .before) .0 in
+    let a = c .before .before .before .before .before .before .before .before .before .before .before .before .before .before .before .before .before .args in
+    let h = known (c .before .before .before .before .before .before .before .before .before .before .before) in
+    let e = c .before .before .before .before .before .before .before .before .before .before .pairs .ensures .0 in
+    let l = c .before .before .before .before .before .before .before .before .if1 .left ∙ c .before .before .before .before .before .before .before .before .before .size .ensures .0 in
     fresh-made (a .scheme .now) (a .network .now) (h .0) l (laid (h .1 .counts) e l (c .before .before .before .before .before .before .clear .ensures) (c .before .before .fill .ensures))
 
 pub fresh-spec : {M : Type 1} → statement M
@@ -89,9 +72,7 @@ fresh-spec =
     number-requires
     returns
     pairs-requires
-    resources-requires
-    mul-if1
-    add-if1
+    size-requires
     returns-2
     clear-requires
     fill-requires

@@ -1,39 +1,19 @@
-use Prim.Native.Nat.{_+_, _*_, _≤_}
 use mathlib.Core.Path.{_≡_, sym, _∙_}
 use native.Mathlib.Omega.{arith}
-use borrow.Author.Needs.{needs}
-use Rattle.model.specs.Network.{size}
-use Rattle.model.specs.SchemeBytes.{schemeOf}
 use Rattle.model.proofs.Deciding.{decided, says, iff}
-use Rattle.network.proofs.Validity.{settings-end, settings-small, valid-states, valid-offered, offered-below, valid-if}
+use Rattle.network.proofs.Validity.{valid-states, valid-offered, offered-below, valid-if}
+use borrow.Author.Needs.{needs}
 use Rattle.network.proofs.valid.valid.Statement.{statement}
 use Rattle.network.proofs.valid.valid.Tie as tie
 
 pairs-requires : tie.Need-pairs-requires
 pairs-requires c κs = search needs
 
-resources-requires : tie.Need-resources-requires
-resources-requires c κs = search needs
-
--- where the settings end
-ends : (c : tie.After-resources)
-    → let a = c .before .before .before .before .args in
-    let settings = a .c .members * c .resources .result in
-    (c .before .pairs .result + settings ≡ size (schemeOf (a .scheme .now))) × (settings ≤ 6656)
-ends c =
-    let h = c .before .before .before .before .pre in
-    let f = c .before .pairs .ensures .0 in
-    let e = c .resources .ensures .0 in
-    (settings-end h f e, settings-small h f e)
-
-mul-end : tie.Need-mul-end
-mul-end c = omega (arith, ends (c .before))
-
-add-end : tie.Need-add-end
-add-end c = omega (arith, ends (c .before))
+size-requires : tie.Need-size-requires
+size-requires c κs = search needs
 
 returns : tie.Need-returns
-returns c = λ v. c .if1 .taken (v .sized ∙ sym (ends (c .before .before) .0))
+returns c = search needs
 
 greatest-requires : tie.Need-greatest-requires
 greatest-requires c κs = search needs
@@ -43,7 +23,7 @@ wide-requires c κs = search needs
 
 returns-2 : tie.Need-returns-2
 returns-2 c =
-    let s = c .before .before .before .before .before .before .before .before .before .before in
+    let s = c .before .before .before .before .before .before .before .before .before in
     let most = c .before .before .before .greatest .ensures .1 (s .args .c .states) (omega (arith, s .pre .range)) in
     λ v. omega (arith, most (λ k a b. valid-states (s .args .network .now) (s .pre) v k (omega arith)))
 
@@ -52,21 +32,21 @@ greatest-requires-2 c κs = search needs
 
 returns-3 : tie.Need-returns-3
 returns-3 c =
-    let s = c .before .before .before .before .before .before .before .before .before .before .before .before in
+    let s = c .before .before .before .before .before .before .before .before .before .before .before in
     let n = s .args .network .now in
-    let e = ends (c .before .before .before .before .before .before .before .before) .0 in
+    let e = c .before .before .before .before .before .before .before .size .ensures .0 in
     λ v. omega (arith, c .before .greatest2 .ensures .1 32 (omega arith) (λ k a b. offered-below n (s .pre) (valid-offered n (s .pre) v) k (omega arith) (omega arith)))
 
 settings-offered-requires : tie.Need-settings-offered-requires
 settings-offered-requires c κs =
-    ((c .before .before .before .before .before .before .before .before .before .before .before .before .pre, omega (arith, ends (c .before .before .before .before .before .before .before .before))), λ k a b. omega (arith, c .before .greatest2 .ensures .0 k (omega arith) (omega arith)))
+    ((c .before .before .before .before .before .before .before .before .before .before .before .pre, omega (arith, c .before .before .before .before .before .before .before .size .ensures .0)), λ k a b. omega (arith, c .before .greatest2 .ensures .0 k (omega arith) (omega arith)))
 
 returns-4 : tie.Need-returns-4
 returns-4 c =
-    let h = c .before .before .before .before .before .before .before .before .before .before .before .before .before .pre in
-    let n = c .before .before .before .before .before .before .before .before .before .before .before .before .before .args .network .now in
+    let h = c .before .before .before .before .before .before .before .before .before .before .before .before .pre in
+    let n = c .before .before .before .before .before .before .before .before .before .before .before .before .args .network .now in
     decided {b = c .settings-offered .result}
-    (iff (valid-if n h (omega (arith, ends (c .before .before .before .before .before .before .before .before .before))) (λ k l. omega (arith, c .before .before .before .before .before .before .greatest .ensures .0 k (omega arith) (omega arith)))) (valid-offered n h)
+    (iff (valid-if n h (omega (arith, c .before .before .before .before .before .before .before .before .size .ensures .0)) (λ k l. omega (arith, c .before .before .before .before .before .before .greatest .ensures .0 k (omega arith) (omega arith)))) (valid-offered n h)
     (says (c .settings-offered .ensures)))
 
 pub valid-spec : {M : Type 1} → statement M
@@ -74,9 +54,7 @@ valid-spec =
     tie.close
     (tie.spec
     pairs-requires
-    resources-requires
-    mul-end
-    add-end
+    size-requires
     returns
     greatest-requires
     wide-requires
