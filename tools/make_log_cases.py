@@ -80,6 +80,13 @@ def sessions(rng):
     yield ref.standard_scheme(4), session() + session()
 
 
+def edges(rng):
+    """The edges that document 01 names."""
+    asked = ref.build_log(map(ref.parsed, ('set 3 0 12', 'set 3 0 13', 'event 0 0 0', 'find 3 3')))
+    for n in (4, 256, 257):
+        yield ref.standard_scheme(n), asked
+
+
 def random_logs(rng):
     for i in range(50):
         n = rng.randrange(1, 6)
@@ -209,7 +216,7 @@ def friend_counts(rng):
 # ---- What is written
 
 # the long ones stand last
-GROUPS = [sessions, cut_logs, wrong_kinds, wrong_lengths, bytes_behind, damaged_logs, refused_schemes, long_schemes, ends,
+GROUPS = [sessions, edges, cut_logs, wrong_kinds, wrong_lengths, bytes_behind, damaged_logs, refused_schemes, long_schemes, ends,
           random_logs, guided_logs, sizes, long_logs, friend_counts]
 
 
