@@ -11,7 +11,7 @@ ghost use Rattle.clique.specs.Cliques.{rowOf, AllRows, Undirected, Large
 ghost use Rattle.clique.specs.Sets.{RowPut, Meet, NotEmpty, TellsEach};
 
 // Writes a member's row.
-fn put_row(rows: &mut [u64], m: usize, row: [u64; 4])
+pub fn put_row(rows: &mut [u64], m: usize, row: [u64; 4])
     requires { ⌜ (length (now rows) ≡ 1024) × (m < 256) ⌝ }
     ensures { λ r. ⌜ RowPut (now (rows .entry)) m row (now (rows .exit)) ⌝ }
 {

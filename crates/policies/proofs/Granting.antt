@@ -1,9 +1,9 @@
 -- What a rule is judged on, and the set of those that admit.
 use Prim.Native.Nat.{ℕ, _+_, _≤_, _<_}
-use mathlib.Core.Path.{_≡_, sym, _∙_}
+use mathlib.Core.Path.{_≡_, refl, sym, _∙_}
 use mathlib.Core.Bool.{Bool, true, false≢true}
 use mathlib.Core.List.{List}
-use mathlib.Core.Logic.{inl, inr, _↔_}
+use mathlib.Core.Logic.{_↔_}
 use native.Mathlib.Omega.{arith}
 use native.Mathlib.Decide.{ℕ-discrete}
 use Rattle.model.specs.Bytes.{bit, NoBitFrom}
@@ -21,8 +21,8 @@ use Rattle.clique.specs.Cliques.{AllRows, LargestClique}
 use Rattle.clique.specs.Sets.{RowsOf}
 use Rattle.clique.proofs.Networks.{network-undirected}
 use Rattle.distance.specs.Distances.{Distances}
-use Rattle.policies.specs.Admission.{Prepared, Admitted, NextRule}
-use Rattle.policies.specs.Reading.{IsClique, CliqueSize}
+use Rattle.policies.specs.Admission.{Admitted, NextRule}
+use Rattle.policies.specs.Reading.{kindOf, Shares, CliqueSize}
 
 -- a policy's bit
 pub bit-says : (b net : List ℕ) (u v set count : ℕ) → Admitted b net u v set count → (p : ℕ) → p < count
@@ -31,39 +31,29 @@ bit-says b net u v set count a p l =
     let (to, from) = a p l in
     record { yes-if = to; no-if = λ e h. false≢true (sym e ∙ from h) }
 
-module _ {b net : List ℕ} {u v set size : ℕ} {rule : Rule} (next : NextRule b net u v set size rule) where
-  module _ {distances rows : List ℕ} (prepared : Prepared b net v distances rows) (k : ℕ) where
-    -- the distances that a rule of kind within reads
-    pub near-of : rule ≡ Within k → (limit : ℕ) × (k ≤ limit) × Distances (graphOf b net) v limit distances
-    near-of e = prepared .near (next .p) k (next .below) (next .at .policy ∙ rw e)
+module _ {b net distances : List ℕ} {u v set shared size : ℕ} {rule : Rule} (next : NextRule b net distances u v set shared size rule) (k : ℕ) where
+  -- the distances that a rule of kind within reads
+  pub near-of : rule ≡ Within k → (limit : ℕ) × (k ≤ limit) × Distances (graphOf b net) v limit distances
+  near-of e = next .near k (next .at .policy ∙ rw e)
 
-    -- the rows that a rule of kind known reads
-    pub known-rows : rule ≡ Known k → AllRows (graphOf b net) rows
-    known-rows e = prepared .rowed (next .p) k (next .below) (inl (next .at .policy ∙ rw e))
+  -- what a rule of kind known reads
+  pub shared-of : rule ≡ Known k → Shares (graphOf b net) u v shared
+  shared-of e = next .shares (rw (next .at .policy, e) refl)
 
   -- the size that a rule of kind clique reads
-  pub size-of : (k : ℕ) → rule ≡ Clique k → (u ≡ v → ⊥) → LargestClique (graphOf b net) u v size
-  size-of k e = next .sized (k, next .at .policy ∙ rw e)
+  pub size-of : rule ≡ Clique k → (u ≡ v → ⊥) → LargestClique (graphOf b net) u v size
+  size-of e = next .sized (rw (next .at .policy, e) refl)
 
--- the size, of the prepared rows, is what a policy of kind clique reads
-pub sized-by : {b net distances rows : List ℕ} {c : Counts} {u v count size : ℕ} → Ready b c net → Prepared b net v distances rows
-    → CliqueSize b rows u v count size
+-- the size, of the prepared rows, is that of the largest clique
+pub sized-by : {b net rows : List ℕ} {c : Counts} {u v size : ℕ} → Ready b c net → AllRows (graphOf b net) rows → CliqueSize rows u v size
     → u < c .members
     → v < c .members
-    → count ≤ c .policies
-    → (p : ℕ)
-    → p < count
-    → IsClique (schemeOf b .policy p)
     → (u ≡ v → ⊥)
     → LargestClique (graphOf b net) u v size
-sized-by {b} {net} ready prepared s i j few p l (k, e) =
+sized-by {b} {net} ready each s i j =
     let counts = ready .counts in
-    let rows : RowsOf (graphOf b net) _ = record {
-      each = prepared .rowed p k (omega arith) (inr e);
-      few = omega (arith, ready-range ready);
-      undirected = network-undirected b net;
-    } in
-    s .largest (graphOf b net) rows (omega arith) (omega arith) (p, l, (k, e))
+    let rows : RowsOf (graphOf b net) _ = record { each = each; few = omega (arith, ready-range ready); undirected = network-undirected b net } in
+    s .largest (graphOf b net) rows (omega arith) (omega arith)
 
 -- of the first count policies the set has those that admit, and it has no other bit
 pub record Admitting (b net : List ℕ) (u v set count : ℕ) : Type 0 where

@@ -2,14 +2,12 @@
 use Prim.Native.Nat.{ℕ, _≤_, _<_}
 use mathlib.Core.Path.{_≡_}
 use mathlib.Core.List.{List}
-use mathlib.Core.Logic.{_⊎_}
 use native.Mathlib.Omega.{arith}
-use Rattle.model.specs.Policies.{within, known, clique}
+use Rattle.model.specs.Policies.{within}
 use Rattle.model.specs.SchemeBytes.{P, schemeOf}
 use Rattle.network.specs.Ready.{graphOf}
-use Rattle.clique.specs.Cliques.{AllRows}
 use Rattle.distance.specs.Distances.{Distances}
-use Rattle.policies.specs.Reading.{Farthest, ReadsRows, SomePolicy}
+use Rattle.policies.specs.Reading.{Farthest}
 
 -- the distances that policies read
 abbrev pub Near : List ℕ → List ℕ → ℕ → List ℕ → Type 0
@@ -22,9 +20,3 @@ module _ {b : List ℕ} {count limit : ℕ} (far : Farthest b count limit) (e : 
 
   pub near-unread : limit ≡ 0 → Near b net v distances
   near-unread z p k l h = let (x, y) = far .most p k (omega arith) h in absurd (omega arith)
-
--- rows that no policy reads
-pub unrowed : (b net : List ℕ) {count : ℕ} → (SomePolicy ReadsRows b count → ⊥) → count ≡ P b → (rows : List ℕ) (p k : ℕ) → p < P b
-    → (schemeOf b .policy p ≡ known k) ⊎ (schemeOf b .policy p ≡ clique k)
-    → AllRows (graphOf b net) rows
-unrowed b net none e rows p k l h = absurd (none (p, omega arith, (k, h)))

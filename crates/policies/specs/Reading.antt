@@ -2,14 +2,26 @@
 use Prim.Native.Nat.{ℕ, _≤_, _<_}
 use mathlib.Core.Path.{_≡_}
 use mathlib.Core.List.{List}
-use mathlib.Core.Logic.{_⊎_}
+use mathlib.Core.Logic.{_⊎_, _↔_}
 use Rattle.model.specs.Graph.{Graph}
-use Rattle.model.specs.Policies.{Policy, within, known, clique}
+use Rattle.model.specs.Policies.{Policy, no-one, everyone, owner-only, within, known, clique, state, both, either, Admits}
 use Rattle.model.specs.SchemeBytes.{schemeOf}
 use Rattle.tables.specs.Rules.{policyOfRule, RuleFits}
 use Rattle.tables.specs.declared.Rule.{Rule}
 use Rattle.clique.specs.Cliques.{LargestClique}
 use Rattle.clique.specs.Sets.{RowsOf}
+
+-- the number of a policy's kind
+abbrev pub kindOf : Policy → ℕ
+kindOf no-one = 0
+kindOf everyone = 1
+kindOf owner-only = 2
+kindOf (within k) = 3
+kindOf (known k) = 4
+kindOf (clique k) = 5
+kindOf (state set side) = 6
+kindOf (both p q) = 7
+kindOf (either p q) = 8
 
 -- k is that of a rule of kind within, and 0 of any other
 pub record Reach (rule : Rule) (k : ℕ) : Type 0 where
@@ -23,17 +35,14 @@ pub record Farthest (b : List ℕ) (count k : ℕ) : Type 0 where
   pub most : (p j : ℕ) → p < count → schemeOf b .policy p ≡ within j → (1 ≤ j) × (j ≤ k)
   pub one : (k ≡ 0) ⊎ ((p : ℕ) × (p < count) × (schemeOf b .policy p ≡ within k))
 
-abbrev pub IsClique : Policy → Type 0
-IsClique policy = (k : ℕ) × (policy ≡ clique k)
+-- one of the first count policies is of that kind
+abbrev pub SomeOfKind : ℕ → List ℕ → ℕ → Type 0
+SomeOfKind kind b count = (p : ℕ) × (p < count) × (kindOf (schemeOf b .policy p) ≡ kind)
 
--- the policy is known or clique
-abbrev pub ReadsRows : Policy → Type 0
-ReadsRows policy = (k : ℕ) × ((policy ≡ known k) ⊎ (policy ≡ clique k))
+-- known k admits exactly where k is at most r
+pub record Shares (g : Graph) (u v r : ℕ) : Type 0 where
+  pub known-by : (k : ℕ) → k ≤ 255 → (k ≤ r) ↔ Admits g (known k) u v
 
--- one of the first count policies is such
-abbrev pub SomePolicy : (Policy → Type 0) → List ℕ → ℕ → Type 0
-SomePolicy Such b count = (p : ℕ) × (p < count) × Such (schemeOf b .policy p)
-
--- the size is that of the largest clique with u and v, where they are two and one of the first count policies is clique
-pub record CliqueSize (b rows : List ℕ) (u v count size : ℕ) : Type 0 where
-  pub largest : (g : Graph) → RowsOf g rows → u < g .members → v < g .members → SomePolicy IsClique b count → (u ≡ v → ⊥) → LargestClique g u v size
+-- the size is that of the largest clique with u and v, where they are two, in every graph with these rows
+pub record CliqueSize (rows : List ℕ) (u v size : ℕ) : Type 0 where
+  pub largest : (g : Graph) → RowsOf g rows → u < g .members → v < g .members → (u ≡ v → ⊥) → LargestClique g u v size

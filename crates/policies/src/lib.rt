@@ -2,18 +2,19 @@
 use tables::Counts;
 use tables::Rule;
 ghost use mathlib.Core.Path.{_≡_};
+ghost use mathlib.Core.Bool.{true};
 ghost use Prim.Native.Nat.{ℕ, _+_, _<_, _≤_};
 ghost use lib.ListN.{length};
 ghost use Rattle.model.specs.Decides.{Decides};
-ghost use Rattle.model.specs.Graph.{Graph};
-ghost use Rattle.model.specs.Policies.{Policy, Admits, known as knownOf, state as stateOf};
+ghost use Rattle.model.specs.Policies.{Policy, Admits, state as stateOf};
 ghost use Rattle.model.specs.SchemeBytes.{schemeOf, sideOf};
 ghost use Rattle.tables.specs.Read.{ReadAs, MarksOf};
 ghost use Rattle.tables.specs.Rules.{policyOfRule};
 ghost use Rattle.network.specs.Ready.{Ready, graphOf};
-ghost use Rattle.clique.specs.Cliques.{AllRows};
+ghost use Rattle.network.specs.Rows.{FriendRow};
+ghost use Rattle.clique.specs.Cliques.{rowOf};
 ghost use Rattle.policies.specs.Admission.{Prepared, Admitted, NextRule};
-ghost use Rattle.policies.specs.Reading.{Reach, Farthest, IsClique, ReadsRows, SomePolicy, CliqueSize};
+ghost use Rattle.policies.specs.Reading.{kindOf, Reach, Farthest, SomeOfKind, Shares, CliqueSize};
 
 // The k of a rule of kind within; 0 of any other.
 fn reach(rule: Rule) -> usize
@@ -42,34 +43,31 @@ fn farthest(scheme: &[u8], c: Counts) -> usize
     most
 }
 
-// Whether a rule is of kind clique.
-fn clique_rule(rule: Rule) -> bool
-    ensures { λ r. ⌜ ((lower : ℕ → Policy) → Decides r (IsClique (policyOfRule lower rule))) ⌝ }
+// The number of a rule's kind.
+fn kind(rule: Rule) -> u8
+    ensures { λ r. ⌜ ((lower : ℕ → Policy) → r ≡ kindOf (policyOfRule lower rule)) ⌝ }
 {
     match rule {
-        Rule::Clique(_) => true,
-        _ => false,
+        Rule::NoOne => 0,
+        Rule::Everyone => 1,
+        Rule::Owner => 2,
+        Rule::Within(_) => 3,
+        Rule::Known(_) => 4,
+        Rule::Clique(_) => 5,
+        Rule::State { set: _, side: _ } => 6,
+        Rule::Both { left: _, right: _ } => 7,
+        Rule::Either { left: _, right: _ } => 8,
     }
 }
 
-// Whether a rule reads friend rows.
-fn row_rule(rule: Rule) -> bool
-    ensures { λ r. ⌜ ((lower : ℕ → Policy) → Decides r (ReadsRows (policyOfRule lower rule))) ⌝ }
-{
-    match rule {
-        Rule::Known(_) => true,
-        _ => clique_rule(rule),
-    }
-}
-
-// Whether some policy reads friend rows.
-fn reads_rows(scheme: &[u8], c: Counts) -> bool
-    requires { ⌜ ReadAs (now scheme) c ⌝ }
-    ensures { λ r. ⌜ Decides r (SomePolicy ReadsRows (now (scheme .entry)) (c .policies)) ⌝ }
+// Whether one of the first count policies is of a kind.
+fn some_of(scheme: &[u8], c: Counts, count: usize, wanted: u8) -> bool
+    requires { ⌜ ReadAs (now scheme) c × (count ≤ c .policies) ⌝ }
+    ensures { λ r. ⌜ Decides r (SomeOfKind wanted (now (scheme .entry)) count) ⌝ }
 {
     let mut p: usize = 0;
-    while p < c.policies {
-        if row_rule(tables::policy(scheme, c, p)) {
+    while p < count {
+        if kind(tables::policy(scheme, c, p)) == wanted {
             return true;
         }
         p += 1;
@@ -94,40 +92,54 @@ pub fn prepare(
     if limit != 0 {
         distance::fill(scheme, c, marks, network, v, limit, distances);
     }
-    if reads_rows(scheme, c) {
+    if some_of(scheme, c, c.policies, 5) {
         clique::fill_rows(scheme, c, marks, network, rows);
+        return;
+    }
+    if some_of(scheme, c, c.policies, 4) {
+        let row = network::rows::friend_row(scheme, c, marks, network, v);
+        clique::put_row(rows, v, row);
     }
 }
 
-// Kind 4: whether u and v are one, or friends, or have at least k friends in common.
-fn known(rows: &[u64], u: usize, v: usize, k: usize) -> bool
-    requires { ⌜ (length (now rows) ≡ 1024) × (u < 256) × (v < 256) ⌝ }
-    ensures { λ r. ⌜ ((g : Graph) → AllRows g (now (rows .entry)) → g .members ≤ 256 → u < g .members → v < g .members → Decides r (Admits g (knownOf k) u v)) ⌝ }
+// Kind 4, where it is asked: how many friends u and v have in common; 255, enough for every k, where they are one or friends.
+fn common(
+    scheme: &[u8],
+    c: Counts,
+    network: &[u8],
+    rows: &[u64],
+    u: usize,
+    v: usize,
+    asked: bool,
+) -> usize
+    requires { ⌜ Ready (now scheme) c (now network) × (length (now rows) ≡ 1024) × (u < c .members) × (v < c .members) × (asked ≡ true → FriendRow (graphOf (now scheme) (now network)) v (rowOf (now rows) v)) ⌝ }
+    ensures { λ r. ⌜ (asked ≡ true → Shares (graphOf (now (scheme .entry)) (now (network .entry))) u v r) ⌝ }
 {
+    if !asked {
+        return 0;
+    }
     if u == v {
-        return true;
+        return 255;
     }
-    let of_u = clique::row(rows, u);
-    if clique::has(of_u, v) {
-        return true;
+    let of_v = clique::row(rows, v);
+    if clique::has(of_v, u) {
+        return 255;
     }
-    k <= network::rows::shared(of_u, clique::row(rows, v)) as usize
+    let marks = tables::marks(scheme, c);
+    let of_u = network::rows::friend_row(scheme, c, marks, network, u);
+    network::rows::shared(of_u, of_v) as usize
 }
 
-// The size of the largest clique with u and v, looked for only where one of the first count policies is of kind clique.
-fn clique_size(scheme: &[u8], c: Counts, rows: &[u64], u: usize, v: usize, count: usize) -> usize
-    requires { ⌜ ReadAs (now scheme) c × (length (now rows) ≡ 1024) × (u < 256) × (v < 256) × (count ≤ c .policies) ⌝ }
-    ensures { λ r. ⌜ CliqueSize (now (scheme .entry)) (now (rows .entry)) u v count r ⌝ }
+// Kind 5, where it is asked: the size of the largest clique with u and v, where they are two.
+fn clique_size(rows: &[u64], u: usize, v: usize, asked: bool) -> usize
+    requires { ⌜ (length (now rows) ≡ 1024) × (u < 256) × (v < 256) ⌝ }
+    ensures { λ r. ⌜ (asked ≡ true → CliqueSize (now (rows .entry)) u v r) ⌝ }
 {
     if u == v {
         return 0;
     }
-    let mut p: usize = 0;
-    while p < count {
-        if clique_rule(tables::policy(scheme, c, p)) {
-            return clique::largest(rows, u, v);
-        }
-        p += 1;
+    if asked {
+        return clique::largest(rows, u, v);
     }
     0
 }
@@ -156,20 +168,21 @@ fn in_state(
     }
 }
 
-// Whether a rule admits accessor v to what owner u has; set has the policies of lower number that do, size is from clique_size.
+// Whether a rule admits accessor v to what owner u has. Set has the policies of lower number that do, shared is from common,
+// size from clique_size, each if the rule's kind reads it.
 fn rule_admits(
     scheme: &[u8],
     c: Counts,
     network: &[u8],
     distances: &[u16],
-    rows: &[u64],
     rule: Rule,
     set: u32,
+    shared: usize,
     size: usize,
     u: usize,
     v: usize,
 ) -> bool
-    requires { ⌜ Ready (now scheme) c (now network) × Prepared (now scheme) (now network) v (now distances) (now rows) × NextRule (now scheme) (now network) u v set size rule × (u < c .members) × (v < c .members) ⌝ }
+    requires { ⌜ Ready (now scheme) c (now network) × (length (now distances) ≡ 256) × NextRule (now scheme) (now network) (now distances) u v set shared size rule × (u < c .members) × (v < c .members) ⌝ }
     ensures { λ r. ⌜ Decides r (Admits (graphOf (now (scheme .entry)) (now (network .entry))) (policyOfRule (schemeOf (now (scheme .entry)) .policy) rule) u v) ⌝ }
 {
     match rule {
@@ -177,7 +190,7 @@ fn rule_admits(
         Rule::Everyone => true,
         Rule::Owner => u == v,
         Rule::Within(k) => distance::within(distances, u, records::wide(k)),
-        Rule::Known(k) => known(rows, u, v, records::wide(k)),
+        Rule::Known(k) => records::wide(k) <= shared,
         Rule::Clique(k) => u == v || records::wide(k) <= size,
         Rule::State { set: states, side } => in_state(scheme, c, network, states, side, u, v),
         Rule::Both { left, right } => {
@@ -203,12 +216,14 @@ pub fn admitted(
     requires { ⌜ Ready (now scheme) c (now network) × Prepared (now scheme) (now network) v (now distances) (now rows) × (u < c .members) × (v < c .members) × (count ≤ c .policies) ⌝ }
     ensures { λ r. ⌜ Admitted (now (scheme .entry)) (now (network .entry)) u v r count ⌝ }
 {
-    let size = clique_size(scheme, c, rows, u, v, count);
+    let known = some_of(scheme, c, count, 4);
+    let shared = common(scheme, c, network, rows, u, v, known);
+    let size = clique_size(rows, u, v, some_of(scheme, c, count, 5));
     let mut set: u32 = 0;
     let mut p: usize = 0;
     while p < count {
         let rule = tables::policy(scheme, c, p);
-        if rule_admits(scheme, c, network, distances, rows, rule, set, size, u, v) {
+        if rule_admits(scheme, c, network, distances, rule, set, shared, size, u, v) {
             set = set | (1u32 << p);
         }
         p += 1;
@@ -230,6 +245,13 @@ pub fn admits(
     requires { ⌜ Ready (now scheme) c (now network) × Prepared (now scheme) (now network) v (now distances) (now rows) × (u < c .members) × (v < c .members) × (p < c .policies) ⌝ }
     ensures { λ r. ⌜ Decides r (Admits (graphOf (now (scheme .entry)) (now (network .entry))) (schemeOf (now (scheme .entry)) .policy p) u v) ⌝ }
 {
-    let set = admitted(scheme, c, network, distances, rows, u, v, p + 1);
-    tables::offered(set, p)
+    let rule = tables::policy(scheme, c, p);
+    let k = kind(rule);
+    if k >= 7 {
+        let set = admitted(scheme, c, network, distances, rows, u, v, p + 1);
+        return tables::offered(set, p);
+    }
+    let shared = common(scheme, c, network, rows, u, v, k == 4);
+    let size = clique_size(rows, u, v, k == 5);
+    rule_admits(scheme, c, network, distances, rule, 0, shared, size, u, v)
 }

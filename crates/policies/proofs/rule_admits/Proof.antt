@@ -17,8 +17,9 @@ use Rattle.tables.specs.declared.Rule.the-variants.{NoOne, Everyone, Owner, Wit
 use Rattle.tables.specs.Rules.{policyOfRule, RuleFits}
 use Rattle.network.specs.Ready.{graphOf}
 use Rattle.network.proofs.Reading.{ready-range}
-use Rattle.policies.proofs.ByKind.{clique-decides}
-use Rattle.policies.proofs.Granting.{near-of, known-rows, size-of, bit-says}
+use Rattle.policies.specs.Reading.{kindOf}
+use Rattle.policies.proofs.ByKind.{known-decides, clique-decides}
+use Rattle.policies.proofs.Granting.{near-of, shared-of, size-of, bit-says}
 use borrow.Author.Needs.{needs}
 use Rattle.policies.proofs.rule_admits.Statement.{statement}
 use Rattle.policies.proofs.rule_admits.Tie as tie
@@ -37,9 +38,6 @@ module _ (s : tie.Start) where
   fits : (rule : Rule) → s .args .rule ≡ rule → RuleFits (s .pre .2 .p) rule
   fits rule e = rw e at (s .pre .2 .at .fits)
 
-  few : graph .members ≤ 256
-  few = omega (arith, ready-range (s .pre .0), s .pre .0 .counts)
-
   inside : (s .args .u < graph .members) × (s .args .v < graph .members)
   inside = omega (arith, s .pre .0 .counts)
 
@@ -50,17 +48,19 @@ module _ (s : tie.Start) where
   abbrev has : ℕ → Bool
   has q = bit (s .args .set) q
 
-  low : (q : ℕ) → q < s .pre .2 .p → Says (has q) (Admits graph (schemeOf (now (s .args .scheme)) .policy q) (s .args .u) (s .args .v))
-  low = bit-says (now (s .args .scheme)) (now (s .args .network)) (s .args .u) (s .args .v) (s .args .set) (s .pre .2 .p) (s .pre .2 .lower)
+  low : 7 ≤ kindOf (policyOfRule (schemeOf (now (s .args .scheme)) .policy) (s .args .rule)) → (q : ℕ) → q < s .pre .2 .p → Says (has q) (Admits graph (schemeOf (now (s .args .scheme)) .policy q) (s .args .u) (s .args .v))
+  low h = bit-says (now (s .args .scheme)) (now (s .args .network)) (s .args .u) (s .args .v) (s .args .set) (s .pre .2 .p) (s .pre .2 .lower (rw (s .pre .2 .at .policy) h))
 
   told-both : (l r : ℕ) (t : Bool) → s .args .rule ≡ Both l r → (has l && has r) ≡ t → Right t (s .args .rule)
   told-both l r t e d =
       let f = fits (Both l r) e in
+      let low = low (rw e (omega arith)) in
       told t (Both l r) e (decided (rw d at (conj (low l (f .0)) (low r (f .1)))))
 
   told-either : (l r : ℕ) (t : Bool) → s .args .rule ≡ Either l r → (has l || has r) ≡ t → Right t (s .args .rule)
   told-either l r t e d =
       let f = fits (Either l r) e in
+      let low = low (rw e (omega arith)) in
       told t (Either l r) e (decided (rw d at (disj (low l (f .0)) (low r (f .1)))))
 
 enum-told : tie.Need-enum-told
@@ -80,19 +80,14 @@ wide-requires c κs = search needs
 
 within-requires : tie.Need-within-requires
 within-requires c κs =
-    let s = c .before .before .before .before .before .before .before .before in
-    omega (arith, small s, s .pre .1 .distances-long)
+    let s = c .before .before .before .before .before .before .before in
+    omega (arith, small s)
 
 enum-known-rule-2 : tie.Need-enum-known-rule-2
 enum-known-rule-2 c = search needs
 
 wide-requires-2 : tie.Need-wide-requires-2
 wide-requires-2 c κs = search needs
-
-known-requires : tie.Need-known-requires
-known-requires c κs =
-    let s = c .before .before .before .before .before .before .before .before in
-    omega (arith, small s, s .pre .1 .rows-long)
 
 enum-known-rule-3 : tie.Need-enum-known-rule-3
 enum-known-rule-3 c = search needs
@@ -105,7 +100,7 @@ enum-known-rule-4 c = search needs
 
 in-state-requires : tie.Need-in-state-requires
 in-state-requires c κs =
-    let s = c .before .before .before .before .before .before .before in
+    let s = c .before .before .before .before .before .before in
     let k = c .before .rule4 .given in
     (s .pre .0, fits s (State (k .0 .0) (k .0 .1 .0)) (k .1), s .pre .3, s .pre .4)
 
@@ -140,37 +135,36 @@ offered-requires-4 : tie.Need-offered-requires-4
 offered-requires-4 c κs = search needs
 
 returns : tie.Need-returns
-returns c = told (c .before .before .before .before .before .before) false NoOne (c .enum-told .given .1) (λ h. h)
+returns c = told (c .before .before .before .before .before) false NoOne (c .enum-told .given .1) (λ h. h)
 
 returns-2 : tie.Need-returns-2
-returns-2 c = told (c .before .before .before .before .before .before) true Everyone (c .enum-told2 .given .1) tt
+returns-2 c = told (c .before .before .before .before .before) true Everyone (c .enum-told2 .given .1) tt
 
 returns-3 : tie.Need-returns-3
 returns-3 c =
-    let s = c .before .before .before .before .before .before in
+    let s = c .before .before .before .before .before in
     let u = s .args .u in
     let v = s .args .v in
     told s (eqb u v) Owner (c .enum-told3 .given .1) (decided (is-eq u v))
 
 returns-4 : tie.Need-returns-4
 returns-4 c =
-    let s = c .before .before .before .before .before .before .before .before .before in
+    let s = c .before .before .before .before .before .before .before .before in
     let k = c .before .before .before .rule .given in
-    let (limit, l, d) = near-of (s .pre .2) (s .pre .1) (k .0 .0) (k .1) in
+    let (limit, l, d) = near-of (s .pre .2) (k .0 .0) (k .1) in
     told s (c .within .result) (Within (k .0 .0)) (k .1)
     (rw (← c .before .wide .ensures .0) (c .within .ensures (graph s) (s .args .v) limit d (inside s .0) (omega arith)))
 
 returns-5 : tie.Need-returns-5
 returns-5 c =
-    let s = c .before .before .before .before .before .before .before .before .before in
-    let k = c .before .before .before .rule2 .given in
-    let rows = known-rows (s .pre .2) (s .pre .1) (k .0 .0) (k .1) in
-    told s (c .known .result) (Known (k .0 .0)) (k .1)
-    (rw (← c .before .wide2 .ensures .0) (c .known .ensures (graph s) rows (few s) (inside s .0) (inside s .1)))
+    let s = c .before .before .before .before .before .before .before in
+    let k = c .before .before .rule2 .given in
+    told s (leb (c .wide2 .result) (s .args .shared)) (Known (k .0 .0)) (k .1)
+    (rw (c .wide2 .ensures .0) (known-decides (shared-of (s .pre .2) (k .0 .0) (k .1)) (k .0 .0) (omega (arith, c .wide2 .ensures))))
 
 returns-6 : tie.Need-returns-6
 returns-6 c =
-    let s = c .before .before .before .before .before .before .before .before in
+    let s = c .before .before .before .before .before .before .before in
     let k = c .before .before .rule3 .given in
     let u = s .args .u in
     let v = s .args .v in
@@ -178,23 +172,23 @@ returns-6 c =
 
 returns-7 : tie.Need-returns-7
 returns-7 c =
-    let s = c .before .before .before .before .before .before .before .before .before in
+    let s = c .before .before .before .before .before .before .before .before in
     let k = c .before .before .before .rule3 .given in
     let n = c .before .if1 .left in
     let (a, b) = fits s (Clique (k .0 .0)) (k .1) in
     told s (leb (c .wide3 .result) (s .args .size)) (Clique (k .0 .0)) (k .1)
     (rw (c .wide3 .ensures .0)
-    (clique-decides (graph s) (s .args .u) (s .args .v) (k .0 .0) n (s .args .size) a b (size-of (s .pre .2) (k .0 .0) (k .1) n)))
+    (clique-decides (graph s) (s .args .u) (s .args .v) n (k .0 .0) (s .args .size) a b (size-of (s .pre .2) (k .0 .0) (k .1) n)))
 
 returns-8 : tie.Need-returns-8
 returns-8 c =
-    let s = c .before .before .before .before .before .before .before .before in
+    let s = c .before .before .before .before .before .before .before in
     let k = c .before .before .rule4 .given in
     told s (c .in-state .result) (State (k .0 .0) (k .0 .1 .0)) (k .1) (c .in-state .ensures)
 
 returns-9 : tie.Need-returns-9
 returns-9 c =
-    let s = c .before .before .before .before .before .before .before .before .before .before .before in
+    let s = c .before .before .before .before .before .before .before .before .before .before in
     let k = c .before .before .before .before .before .rule5 .given in
     let l : has s (k .0 .0) ≡ c .before .before .offered .result = cc in
     let r : has s (k .0 .1 .0) ≡ c .offered2 .result = cc in
@@ -202,7 +196,7 @@ returns-9 c =
 
 returns-10 : tie.Need-returns-10
 returns-10 c =
-    let s = c .before .before .before .before .before .before .before .before .before .before .before in
+    let s = c .before .before .before .before .before .before .before .before .before .before in
     let k = c .before .before .before .before .before .rule6 .given in
     let l : has s (k .0 .0) ≡ c .before .before .offered3 .result = cc in
     let r : has s (k .0 .1 .0) ≡ c .offered4 .result = cc in
@@ -220,7 +214,6 @@ rule-admits-spec =
     within-requires
     enum-known-rule-2
     wide-requires-2
-    known-requires
     enum-known-rule-3
     wide-requires-3
     enum-known-rule-4
