@@ -1,17 +1,18 @@
 -- The loop that expands a member, turn by turn.
 use Prim.Native.Nat.{ℕ, _+_, _-_, _<_, _≤_}
-use mathlib.Core.Path.{_≡_, refl, sym, _∙_}
-use mathlib.Core.Bool.{Bool, true, false, true≢false}
+use mathlib.Core.Path.{_≡_, refl, sym}
+use mathlib.Core.Bool.{Bool, true, false}
 use mathlib.Core.List.{List}
 use mathlib.Core.Logic.{_⊎_, ⊎-elim}
-use native.Mathlib.Decide.{ℕ-discrete}
+use native.Mathlib.Decide.{ℕ-discrete, decLt}
 use native.Mathlib.Omega.{arith}
-use borrow.Author.Count.{below-none, below-more}
+use borrow.Author.Count.{below-none}
 use lib.ListN.{length, getD, set, length-set}
+use Rattle.model.specs.Graph.{Friends}
 use Rattle.model.specs.Decides.{Decides}
 use Rattle.model.specs.Finding.{World, paths, Goes, Finds, Allows}
 use Rattle.model.proofs.Deciding.{said-yes, said-no}
-use Rattle.finding.specs.Walks.{Kept, Unmet, Walking}
+use Rattle.finding.specs.Walks.{NobodyWaits, AllSeen, Kept, Unmet, Walking}
 use Rattle.finding.proofs.Sums.{Stored, stored, sum, sum-lt}
 use Rattle.finding.proofs.Marking.{found-next}
 
@@ -49,6 +50,13 @@ module _ {w : World} {v u : ℕ} {first state : List ℕ} (x : Walking w v u fir
     unmet = λ a. let z = x .unmet a in ⊎-elim (λ q. let y = rw (q .0) at z in omega arith) (λ q. omega arith) (at u);
   }
 
+  -- m, the first that waited, no longer does
+  pub still-nobody : NobodyWaits m state → NobodyWaits m (set state m 2)
+  still-nobody n k a p = ⊎-elim (λ q. omega arith) (λ q. n k a (omega arith)) (at k)
+
+  pub still-seen : {i : ℕ} → AllSeen i state → AllSeen i (set state m 2)
+  still-seen s k a = let y = s k a in ⊎-elim (λ q. omega arith) (λ q. omega arith) (at k)
+
   module _ {i : ℕ} {next : List ℕ} (y : Expanding w v u m (set state m 2) i next) where
     pub expand-falls : undone (w .graph .members) next < undone (w .graph .members) state
     expand-falls =
@@ -79,29 +87,29 @@ module _ {w : World} {v u : ℕ} {first state : List ℕ} (x : Walking w v u fir
     expand-refused n d = over (λ k g. absurd (said-no n d (g .2)))
 
 module _ {w : World} {v u m i : ℕ} {before state : List ℕ} (x : Expanding w v u m before i state) where
-  pass : (Goes (paths w) v m i → 1 ≤ getD state i 0) → Expanding w v u m before (i + 1) state
-  pass h = record {
+  -- up to r, all friends are seen
+  pub expand-to : {r : ℕ} → ((k : ℕ) → k < r → i ≤ k → Friends (w .graph) m k → 1 ≤ getD state k 0) → Expanding w v u m before r state
+  expand-to h = record {
     long = x .long;
     sound = x .sound;
     closed = x .closed;
-    own = below-more _ _ (x .own) h;
+    own = λ k a g. elim (decLt k i) [ yes l ↦ x .own k l g | no n ↦ h k a (omega arith) (g .1) ];
     from = x .from;
     kept = x .kept;
     unmet = x .unmet;
   }
 
-  -- i is seen
-  pub expand-seen : (getD state i 0 ≡ 0 → ⊥) → Expanding w v u m before (i + 1) state
-  expand-seen h = pass (λ g. omega arith)
+  pub seen-kept : {j : ℕ} → j ≤ w .graph .members → AllSeen j before → AllSeen j state
+  seen-kept b s k a = omega (arith, s k a, x .kept k (omega arith))
 
-  -- i is no friend
-  pub expand-stranger : {f : Bool} → f ≡ w .graph .friends m i → f ≡ false → Expanding w v u m before (i + 1) state
-  expand-stranger e n = pass (λ g. absurd (true≢false (sym (g .1) ∙ sym e ∙ n)))
+  -- nobody below low waits, nor below a lesser number when i waits
+  pub nobody-below : {low r : ℕ} → i < 256 → NobodyWaits low state → r ≤ low → r ≤ i → NobodyWaits r (set state i 1)
+  nobody-below b n p q k a h = ⊎-elim (λ s. omega arith) (λ s. n k (omega arith) (omega arith)) (stored state i 1 (x .long) b k)
 
-  module _ {a f : Bool} (b : i < w .graph .members) (y : a ≡ true) (d : Decides a (Allows w m 1 v)) (e : f ≡ w .graph .friends m i) (t : f ≡ true) where
+  module _ {a : Bool} (b : i < w .graph .members) (y : a ≡ true) (d : Decides a (Allows w m 1 v)) (f : Friends (w .graph) m i) where
     -- a chain goes on to i
     pub expand-met : Finds w v i
-    expand-met = found-next w v m i (x .from) (b, sym e ∙ t, said-yes y d)
+    expand-met = found-next w v m i (x .from) (b, f, said-yes y d)
 
     -- who is unseen, and another than u
     pub expand-mark : w .graph .members ≤ 256 → getD state i 0 ≡ 0 → (i ≡ u → ⊥) → Expanding w v u m before (i + 1) (set state i 1)

@@ -14,11 +14,25 @@ pub record Begun (w : World) (v : ℕ) (state : List ℕ) : Type 0 where
   pub low : (k : ℕ) → k < w .graph .members → getD state k 0 ≤ 1
   pub marks : (k : ℕ) → k < w .graph .members → (1 ≤ getD state k 0) ↔ ((k ≡ v) ⊎ Friends (w .graph) v k)
 
--- r is a member that waits, or their number n where nobody does
+-- nobody below i waits
+abbrev pub NobodyWaits : ℕ → List ℕ → Type 0
+NobodyWaits i state = (k : ℕ) → k < i → getD state k 0 ≡ 1 → ⊥
+
+-- everyone below i is seen
+abbrev pub AllSeen : ℕ → List ℕ → Type 0
+AllSeen i state = (k : ℕ) → k < i → 1 ≤ getD state k 0
+
+-- r is the first that waits, or the number n of members where nobody does
 pub record Waits (n : ℕ) (state : List ℕ) (r : ℕ) : Type 0 where
   pub within : r ≤ n
   pub waits : r < n → getD state r 0 ≡ 1
-  pub nobody : r ≡ n → (k : ℕ) → k < n → getD state k 0 ≡ 1 → ⊥
+  pub nobody : NobodyWaits r state
+
+-- r is the first that is unseen, or the number n of members where nobody is
+pub record Unseen (n : ℕ) (state : List ℕ) (r : ℕ) : Type 0 where
+  pub within : r ≤ n
+  pub unseen : r < n → getD state r 0 ≡ 0
+  pub seen : AllSeen r state
 
 -- whoever is marked is found, and whoever is expanded has marked all to whom a chain goes on
 pub record Walk (w : World) (v : ℕ) (state : List ℕ) : Type 0 where

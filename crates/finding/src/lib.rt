@@ -8,7 +8,7 @@ ghost use Rattle.model.specs.Finding.{Finds, Allows};
 ghost use Rattle.tables.specs.Read.{MarksOf};
 ghost use Rattle.network.specs.Ready.{Ready, worldOf};
 ghost use Rattle.policies.specs.Admission.{Prepared};
-ghost use Rattle.finding.specs.Walks.{Begun, Waits, Walk, Unmet, Searched, Walked};
+ghost use Rattle.finding.specs.Walks.{Begun, NobodyWaits, AllSeen, Waits, Unseen, Walk, Unmet, Searched, Walked};
 
 // Whether u's setting for resource r admits v.
 pub fn allows(
@@ -77,12 +77,12 @@ fn search(
     }
 }
 
-// The first member that waits, or their number.
-fn waiting(members: usize, state: &[u8]) -> usize
-    requires { ⌜ members ≤ length (now state) ⌝ }
+// The first member that waits, or their number; nobody below a member does.
+fn waiting(members: usize, state: &[u8], from: usize) -> usize
+    requires { ⌜ (members ≤ length (now state)) × (from ≤ members) × NobodyWaits from (now state) ⌝ }
     ensures { λ r. ⌜ Waits members (now (state .entry)) r ⌝ }
 {
-    let mut k: usize = 0;
+    let mut k = from;
     while k < members {
         if state[k] == 1 {
             return k;
@@ -92,7 +92,29 @@ fn waiting(members: usize, state: &[u8]) -> usize
     k
 }
 
-// Expands members until u is met or no member is left to expand.
+// The first member that is unseen, or their number; everyone below a member is seen.
+fn first_unseen(members: usize, state: &[u8], from: usize) -> usize
+    requires { ⌜ (members ≤ length (now state)) × (from ≤ members) × AllSeen from (now state) ⌝ }
+    ensures { λ r. ⌜ Unseen members (now (state .entry)) r ⌝ }
+{
+    let mut k = from;
+    while k < members {
+        if state[k] == 0 {
+            return k;
+        }
+        k += 1;
+    }
+    k
+}
+
+// The lesser number.
+fn lesser(x: usize, y: usize) -> usize
+    ensures { λ r. ⌜ (r ≤ x) × (r ≤ y) ⌝ }
+{
+    if x < y { x } else { y }
+}
+
+// Expands members until u is met or no member is left to expand. Nobody below low waits, everyone below first is seen.
 fn walk(
     scheme: &[u8],
     c: Counts,
@@ -107,24 +129,25 @@ fn walk(
     requires { ⌜ Ready (now scheme) c (now network) × MarksOf (now scheme) (c .states) marks × Prepared (now scheme) (now network) v (now distances) (now rows) × (v < c .members) × Walk (worldOf (now scheme) (now network)) v (now state) × Unmet (worldOf (now scheme) (now network)) u (now state) ⌝ }
     ensures { λ r. ⌜ Walked (worldOf (now (scheme .entry)) (now (network .entry))) v u (now (state .entry)) (now (state .exit)) r ⌝ }
 {
+    let mut low: usize = 0;
+    let mut first: usize = 0;
     let found = 'walk: loop {
-        let m = waiting(c.members, state);
+        let m = waiting(c.members, state, low);
         if m == c.members {
             break 'walk false;
         }
         state[m] = 2;
+        low = m;
         if allows(scheme, c, network, distances, rows, m, 1, v) {
-            let mut k: usize = 0;
+            first = first_unseen(c.members, state, first);
+            let mut k = network::next::friend(scheme, c, marks, network, m, state, first);
             while k < c.members {
-                if state[k] == 0 {
-                    if network::read::friends(scheme, c, marks, network, m, k) {
-                        if k == u {
-                            break 'walk true;
-                        }
-                        state[k] = 1;
-                    }
+                if k == u {
+                    break 'walk true;
                 }
-                k += 1;
+                state[k] = 1;
+                low = lesser(low, k);
+                k = network::next::friend(scheme, c, marks, network, m, state, k + 1);
             }
         }
     };

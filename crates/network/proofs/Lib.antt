@@ -1,4 +1,5 @@
 pub mod Filling
+pub mod Passing
 pub mod Reading
 pub mod RowBits
 pub mod Validity

@@ -1,8 +1,9 @@
 -- What is known of a network that passes 5: the counts, and where each byte stands.
-use Prim.Native.Nat.{ℕ, _+_, _*_, _<_, _≤_, min, max}
+use Prim.Native.Nat.{ℕ, _+_, _*_, _%_, _<_, _≤_, min, max}
 use mathlib.Core.Path.{_≡_, sym, ap, _∙_}
-use mathlib.Core.Bool.{false, and-false}
+use mathlib.Core.Bool.{Bool, false, and-false}
 use mathlib.Core.List.{List}
+use native.Mathlib.Numerals.{add-one}
 use native.Mathlib.Omega.{arith}
 use borrow.Author.Tests.{eq-eqb, ne-eqb, lt-ltb, le-ltb}
 use lib.ListN.{length, getD}
@@ -11,7 +12,7 @@ use Rattle.model.specs.Network.{Maps, pairs, pairPlace, settingPlace, held, sta
 use Rattle.model.specs.SchemeBytes.{n, A, I, P, schemeOf}
 use Rattle.model.proofs.Bits.{bit-below}
 use Rattle.model.proofs.Held.{held-state, held-setting, other-state}
-use Rattle.model.proofs.Places.{pairs-mono, pair-before, setting-before}
+use Rattle.model.proofs.Places.{pairs-suc, pairs-mono, pair-before, setting-before}
 use Rattle.tables.specs.Read.{InRange, ReadAs, MarksOf}
 use Rattle.tables.specs.declared.Counts.{Counts}
 use Rattle.scheme.proofs.Accepting.{accepted-read}
@@ -19,6 +20,9 @@ use Rattle.network.specs.Ready.{Ready, graphOf}
 
 pub pairs-small : (n : ℕ) → n ≤ 256 → pairs n ≤ 32640
 pairs-small n h = pairs-mono n 256 h
+
+pub pairs-more : (n : ℕ) → pairs (n + 1) ≡ pairs n + n
+pairs-more n = ap pairs (add-one n) ∙ pairs-suc n
 
 -- the state of two members, the lesser first
 pub pair-state : (s : Maps) (i j : ℕ) → i < j → (stateOf s i j ≡ s .pair i j) × (stateOf s j i ≡ s .pair i j)
@@ -85,3 +89,16 @@ module _ {b : List ℕ} {c : Counts} {net : List ℕ} (h : Ready b c net) where
       let x : u < n b = omega arith in
       let y : v < n b = omega arith in
       marks .marked q s ∙ ap (schemeOf b .friendly) e ∙ simp (lt-ltb u (n b) x, lt-ltb v (n b) y, ne-eqb u v d)
+
+  -- as the byte of a pair says
+  pub friends-byte : (set i j at : ℕ) {r : Bool} → MarksOf b (c .states) set → i < j → j < c .members → at ≡ pairPlace i j
+      → r ≡ bit set (getD net at 0 % 16)
+      → (r ≡ graphOf b net .friends i j) × (r ≡ graphOf b net .friends j i)
+  friends-byte set i j at marks a d p e =
+      let q : ℕ = getD net (pairPlace i j) 0 in
+      let (x, y, l) = pair-held i j a d in
+      let s : q % 16 ≡ q = omega (arith, ready-range) in
+      let f = e ∙ ap (λ (x : ℕ). bit set (getD net x 0 % 16)) p ∙ ap (bit set) s in (
+        f ∙ friends-marked set i j q marks (omega arith) d (λ z. omega arith) x l,
+        f ∙ friends-marked set j i q marks d (omega arith) (λ z. omega arith) y l,
+      )

@@ -1,3 +1,4 @@
 pub mod Fill
+pub mod Next
 pub mod Ready
 pub mod Rows

@@ -1,7 +1,8 @@
 // Reads of a network that passes 5.
 use tables::Counts;
 ghost use mathlib.Core.Path.{_≡_};
-ghost use Prim.Native.Nat.{_+_, _<_, _≤_};
+ghost use Prim.Native.Nat.{_+_, _%_, _<_, _≤_};
+ghost use Rattle.model.specs.Bytes.{bit};
 ghost use Rattle.model.specs.Network.{held, stateOf, pairs as pairCount, size as sizeOf};
 ghost use Rattle.model.specs.SchemeBytes.{schemeOf};
 ghost use Rattle.tables.specs.Read.{ReadAs, MarksOf};
@@ -48,6 +49,13 @@ pub fn setting(scheme: &[u8], c: Counts, network: &[u8], m: usize, r: usize) -> 
     network[pairs(c.members) + (m * tables::resources(c) + r)]
 }
 
+// Whether a state is among the marked ones.
+pub fn marked(marks: u16, q: u8) -> bool
+    ensures { λ r. ⌜ r ≡ bit marks (q % 16) ⌝ }
+{
+    (marks >> (q % 16)) & 1 == 1
+}
+
 // Whether two members are friends; marks are the scheme's.
 pub fn friends(scheme: &[u8], c: Counts, marks: u16, network: &[u8], u: usize, v: usize) -> bool
     requires { ⌜ Ready (now scheme) c (now network) × MarksOf (now scheme) (c .states) marks × (u < c .members) × (v < c .members) ⌝ }
@@ -57,5 +65,5 @@ pub fn friends(scheme: &[u8], c: Counts, marks: u16, network: &[u8], u: usize, v
         return false;
     }
     let q = state(scheme, c, network, u, v);
-    (marks >> (q % 16)) & 1 == 1
+    marked(marks, q)
 }

@@ -1,25 +1,24 @@
-use mathlib.Core.Path.{_≡_}
-use Prim.Native.Nat.{ℕ, _-_, _<_, _≤_}
+use Prim.Native.Nat.{_-_, _≤_}
 use native.Mathlib.Omega.{arith}
-use borrow.Author.Count.{below-none, below-more}
-use lib.ListN.{getD}
+use borrow.Author.Count.{below-more}
+use Rattle.finding.specs.Walks.{NobodyWaits}
 use Rattle.finding.proofs.waiting.Statement.{statement}
 use Rattle.finding.proofs.waiting.Tie as tie
 
 abbrev Inv-loop : tie.InvT-loop
-Inv-loop members state k₀ k = (k ≤ members) × ((j : ℕ) → j < k → getD state j 0 ≡ 1 → ⊥)
+Inv-loop members state from k₀ k = (k ≤ members) × NobodyWaits k state
 
 abbrev μ-loop : tie.MeasureT-loop
-μ-loop members state k₀ k = members - k
+μ-loop members state from k₀ k = members - k
 
 loop-holds : tie.Need-loop-holds Inv-loop μ-loop
-loop-holds c = (omega arith, below-none _)
+loop-holds c = (c .pre .1, c .pre .2)
 
 shared-slice-read-if1 : tie.Need-shared-slice-read-if1 Inv-loop μ-loop
 shared-slice-read-if1 c = omega arith
 
 returns : tie.Need-returns Inv-loop μ-loop
-returns c = record { within = omega arith; waits = λ l. c .if1 .taken; nobody = λ e. omega arith }
+returns c = record { within = omega arith; waits = λ l. c .if1 .taken; nobody = c .before .before .before .loop .inv .1 }
 
 add-k : tie.Need-add-k Inv-loop μ-loop
 add-k c = omega arith
@@ -31,7 +30,7 @@ loop-again : tie.Need-loop-again Inv-loop μ-loop
 loop-again c = (omega arith, below-more _ _ (c .before .before .before .loop .inv .1) (c .if1 .left))
 
 returns-2 : tie.Need-returns-2 Inv-loop μ-loop
-returns-2 c = record { within = omega arith; waits = λ l. absurd (omega arith); nobody = λ e j l. c .before .loop .inv .1 j (omega arith) }
+returns-2 c = record { within = omega arith; waits = λ l. absurd (omega arith); nobody = c .before .loop .inv .1 }
 
 pub waiting-spec : {M : Type 1} → statement M
 waiting-spec =

@@ -1,9 +1,7 @@
-use Prim.Native.Nat.{ℕ, _%_}
+use Prim.Native.Nat.{_%_}
 use mathlib.Core.Path.{_≡_, sym, ap, _∙_}
 use native.Mathlib.Omega.{arith}
-use lib.Dec.{eqb}
 use Rattle.model.specs.Bytes.{bit}
-use Rattle.model.proofs.Bits.{shr-and-one}
 use Rattle.network.proofs.Reading.{friends-marked, friends-own, ready-range}
 use borrow.Author.Needs.{needs}
 use Rattle.network.proofs.read.friends.Statement.{statement}
@@ -17,20 +15,17 @@ returns c =
 state-requires : tie.Need-state-requires
 state-requires c κs = search needs
 
-cast-result : tie.Need-cast-result
-cast-result c = search needs
-
-shr-result : tie.Need-shr-result
-shr-result c = search needs
+marked-requires : tie.Need-marked-requires
+marked-requires c κs = search needs
 
 returns-2 : tie.Need-returns-2
 returns-2 c =
-    let s = c .before .before .before .before in
-    let q = c .state in
+    let s = c .before .before .before .before .before in
+    let q = c .before .state in
     let e : q .result % 16 ≡ q .result = omega (arith, ready-range (s .pre .0)) in
-    ap (λ (y : ℕ). eqb y 1) (shr-and-one (s .args .marks) (q .result % 16))
+    c .marked .ensures
     ∙ ap (bit (s .args .marks)) e
-    ∙ friends-marked (s .pre .0) (s .args .marks) (s .args .u) (s .args .v) (q .result) (s .pre .1) (s .pre .2) (s .pre .3) (c .before .if1 .left) (q .ensures .0) (q .ensures .1)
+    ∙ friends-marked (s .pre .0) (s .args .marks) (s .args .u) (s .args .v) (q .result) (s .pre .1) (s .pre .2) (s .pre .3) (c .before .before .if1 .left) (q .ensures .0) (q .ensures .1)
 
 pub friends-spec : {M : Type 1} → statement M
-friends-spec = tie.close (tie.spec returns state-requires cast-result shr-result returns-2)
+friends-spec = tie.close (tie.spec returns state-requires marked-requires returns-2)
