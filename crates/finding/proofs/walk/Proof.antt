@@ -56,7 +56,7 @@ walk-holds c =
 waiting-requires : tie.Need-waiting-requires Inv-loop μ-loop Inv-walk μ-walk
 waiting-requires c κs =
     let i = c .before .walk .inv in
-    (omega (arith, ready-range (c .before .before .before .before .before .before .before .pre .0), i .4 .walk .long), i .0, i .2)
+    (omega (arith, ready-range (c .before .before .before .before .before .before .before .pre .0), i .4 .walk .long), omega arith, i .2)
 
 slice-write-state : tie.Need-slice-write-state Inv-loop μ-loop Inv-walk μ-walk
 slice-write-state c = omega (arith, chosen c, c .before .before .before .before .walk .inv .4 .walk .long)
@@ -67,12 +67,26 @@ allows-requires c κs =
     let e = p .0 .counts .members in
     (p .0, p .2, omega (arith, chosen c .0), p .3, omega arith)
 
+walk-less-2 : tie.Need-walk-less-2 Inv-loop μ-loop Inv-walk μ-walk
+walk-less-2 c =
+    let (b, small, e) = chosen (c .before .before) in
+    let i = c .before .before .before .before .before .before .walk .inv .4 in
+    expand-falls i _ b small e (expand-begin i _ b small e)
+
+walk-again-2 : tie.Need-walk-again-2 Inv-loop μ-loop Inv-walk μ-walk
+walk-again-2 c =
+    let (b, small, e) = chosen (c .before .before) in
+    let i = c .before .before .before .before .before .before .walk .inv in
+    let w = c .before .before .before .before .waiting .ensures in
+    (w .within, i .1, still-nobody (i .4) _ b small e (w .nobody), still-seen (i .4) _ b small e (i .3), expand-refused (i .4) _ b small e (expand-begin (i .4) _ b small e) (c .if2 .left) (c .before .allows .ensures))
+
 first-unseen-requires : tie.Need-first-unseen-requires Inv-loop μ-loop Inv-walk μ-walk
 first-unseen-requires c κs =
     let (b, small, e) = chosen (c .before .before .before) in
     let i = c .before .before .before .before .before .before .before .walk .inv in
     let r = ready-range (c .before .before .before .before .before .before .before .before .before .before .before .before .before .pre .0) in
-    (omega (arith, r, expand-begin (i .4) _ b small e .long), i .1, still-seen (i .4) _ b small e (i .3))
+    let q = c .before .before .before .before .before .before .before .before .before .before .before .before .before .pre .0 .counts .members in
+    (omega (arith, r, expand-begin (i .4) _ b small e .long), omega (arith, r, q), still-seen (i .4) _ b small e (i .3))
 
 friend-requires : tie.Need-friend-requires Inv-loop μ-loop Inv-walk μ-walk
 friend-requires c κs =
@@ -134,19 +148,6 @@ loop-again c =
     let small = chosen (c .before .before .before .before .before .before .before .before .before .before .before .before .before) .1 in
     let x = expand-mark (l .4) (omega arith) (c .before .before .before .before .before .before .before .before .before .before .before .if2 .taken) (c .before .before .before .before .before .before .before .before .before .before .before .before .allows .ensures) (t .0) small (t .1) (c .before .before .before .if4 .left) in
     (f .within, omega arith, nobody-below (l .4) (omega arith) (l .2) (h .0) (h .1), f .stops, expand-to x (f .passed))
-
-walk-less-2 : tie.Need-walk-less-2 Inv-loop μ-loop Inv-walk μ-walk
-walk-less-2 c =
-    let (b, small, e) = chosen (c .before .before) in
-    let i = c .before .before .before .before .before .before .walk .inv .4 in
-    expand-falls i _ b small e (expand-begin i _ b small e)
-
-walk-again-2 : tie.Need-walk-again-2 Inv-loop μ-loop Inv-walk μ-walk
-walk-again-2 c =
-    let (b, small, e) = chosen (c .before .before) in
-    let i = c .before .before .before .before .before .before .walk .inv in
-    let w = c .before .before .before .before .waiting .ensures in
-    (w .within, i .1, still-nobody (i .4) _ b small e (w .nobody), still-seen (i .4) _ b small e (i .3), expand-refused (i .4) _ b small e (expand-begin (i .4) _ b small e) (c .if2 .left) (c .before .allows .ensures))
 
 same-length : tie.Need-same-length Inv-loop μ-loop Inv-walk μ-walk
 same-length c = omega (arith, c .before .before .before .before .before .before .before .before .before .before .pre .4 .long, c .before .before .before .before .walk .inv .4 .walk .long)
