@@ -1,6 +1,4 @@
 // The log program: runs the files `scheme` and `requests` of its folder (document 01, "Log program").
-ghost use mathlib.Core.Path.{_≡_};
-ghost use lib.ListN.{length};
 ghost use Rattle.io.specs.Counts.{Counts};
 
 // Reads a file to the front of the buffer; a file that cannot be read to its end, or until the buffer is full, counts as empty.
@@ -21,24 +19,11 @@ fn read_file(path: &[u8], buffer: &mut [u8]) -> usize
     count
 }
 
-fn places() -> [u16; 256]
-    ensures { λ r. ⌜ 256 ≡ length r ⌝ }
-{
-    [0; 256]
-}
-
 // The buffers hold more than every scheme and log that is accepted, and so the answer for files of any length.
 fn main() {
     let mut scheme = io::buffer();
     let mut log = io::large_buffer();
-    let mut network = io::large_buffer();
-    let mut output = places();
     let scheme_length = read_file(b"scheme", &mut scheme);
     let log_length = read_file(b"requests", &mut log);
-    replay::print(
-        &scheme[..scheme_length],
-        &log[..log_length],
-        &mut network,
-        &mut output,
-    );
+    replay::print(&scheme[..scheme_length], &log[..log_length]);
 }

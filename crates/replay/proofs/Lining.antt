@@ -2,6 +2,7 @@
 use Prim.Native.Nat.{ℕ, _≤_, _<_}
 use mathlib.Core.Path.{_≡_, refl, sym, _∙_, ap}
 use mathlib.Core.List.{List}
+use mathlib.Core.Logic.{inl, inr}
 use native.Mathlib.Omega.{arith}
 use lib.ListN.{length, take, drop, take-append-drop, length-append}
 use lib.Seq.{drop-at}
@@ -12,9 +13,9 @@ use Rattle.log.specs.Read.{outcome, Read}
 use Rattle.log.specs.declared.Answer.{Answer}
 use Rattle.requests.specs.Answered.{answered, numberOf, countOf, ListCalled}
 use Rattle.requests.specs.declared.Listed.{Listed}
-use Rattle.replay.specs.Lines.{Lined}
+use Rattle.replay.specs.Lines.{Lined, Followed}
 use Rattle.replay.specs.declared.Line.{Line}
-use Rattle.replay.specs.declared.Line.the-variants.{Next}
+use Rattle.replay.specs.declared.Line.the-variants.{Next, Last, End}
 
 length-take-short : (n : ℕ) (l : List ℕ) → length (take n l) ≤ length l
 length-take-short n l = omega (arith, length-append (take n l) (drop n l), ap length (take-append-drop n l))
@@ -61,11 +62,17 @@ within log lent k (find v u) h = (omega arith, omega (arith, h .0 .0, h .0 .1))
 within log lent k (list v u places) h = (omega arith, omega (arith, h .0 .0, h .0 .1))
 within log lent k (view v u o) h = (omega arith, omega (arith, h .0 .0, h .0 .1))
 
-pub went-on : (b log : List ℕ) (k : ℕ) (net out : List ℕ) (line : Line) (answer count place : ℕ) (after left : List ℕ)
-    → line ≡ Next answer count place → Lined b log k net out line after left
-    → (k < place) × (place ≤ length log) × (count ≤ length left)
-went-on b log k net out line answer count place after left e h =
-    let x : Lined b log k net out (Next answer count place) after left = rw e at h in
-    let (q, n, m, c, s, d) = x in
-    let (i, j) = within log (length out) k q (n .1) in
-    (omega arith, omega arith, s)
+module _ (b log : List ℕ) (k : ℕ) (net out : List ℕ) (line : Line) (after left : List ℕ) (h : Lined b log k net out line after left) where
+  pub went-on : (answer count place : ℕ) → line ≡ Next answer count place
+      → Followed log (length out) k place × (k < place) × (place ≤ length log) × (count ≤ length left)
+  went-on answer count place e =
+      let x : Lined b log k net out (Next answer count place) after left = rw e at h in
+      let (q, n, m, c, s, d) = x in
+      let (i, j) = within log (length out) k q (n .1) in
+      (inl (q, n, m), omega arith, omega arith, s)
+
+  pub was-last : (number : ℕ) → line ≡ Last number → Followed log (length out) k (length log)
+  was-last number e = let x : Lined b log k net out (Last number) after left = rw e at h in inr (x .1, refl)
+
+  pub not-over : line ≡ End → k < length log → ⊥
+  not-over e l = let x : Lined b log k net out End after left = rw e at h in omega (arith, x .0)

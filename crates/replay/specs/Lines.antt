@@ -2,6 +2,7 @@
 use Prim.Native.Nat.{ℕ, _≤_, _<_}
 use mathlib.Core.Path.{_≡_}
 use mathlib.Core.List.{List, [], _∷_, _++_}
+use mathlib.Core.Logic.{_⊎_}
 use lib.ListN.{length, take, drop}
 use Rattle.model.specs.Answers.{Requirement, Answers}
 use Rattle.model.specs.SchemeBytes.{schemeOf, schemeNeeds}
@@ -48,3 +49,9 @@ Lined b log k net out (Next answer count place) after left =
     × (drop count left ≡ drop count out)
 Lined b log k net out (Last number) after left = (number ≡ 14) × NextAt log (length out) k (refused 14) × (after ≡ net) × (left ≡ out)
 Lined b log k net out End after left = NextAt log (length out) k ended × (after ≡ net) × (left ≡ out)
+
+-- where the record behind the one at a place stands; the log's end after a 14
+abbrev pub Followed : List ℕ → ℕ → ℕ → ℕ → Type 0
+Followed log lent k place =
+    ((q : Request) × NextAt log lent k (request q) × (place ≡ placeAfter log k (request q)))
+    ⊎ (NextAt log lent k (refused 14) × (place ≡ length log))

@@ -5,7 +5,7 @@ use scheme::Reading;
 ghost use mathlib.Core.Path.{_≡_};
 ghost use Prim.Native.Nat.{_<_, _≤_};
 ghost use lib.ListN.{length};
-ghost use Rattle.replay.specs.Lines.{Started, Overlong, Lined};
+ghost use Rattle.replay.specs.Lines.{Started, Overlong, Lined, Followed};
 
 // How a run starts: on a fresh network of so many bytes, or not, with the number that is printed.
 pub enum Start {
@@ -107,13 +107,13 @@ fn print_record(
     output: &mut [u16],
 ) -> usize
     requires { ⌜ place < length (now log) ⌝ }
-    ensures { λ r. ⌜ (place < r) × (r ≤ length (now (log .entry))) ⌝ }
+    ensures { λ r. ⌜ Followed (now (log .entry)) (length (now (output .entry))) place r × (place < r) × (r ≤ length (now (log .entry))) ⌝ }
 {
     let line = play(scheme, log, place, network, output);
     match line {
-        Line::Next(answer, count, after) => {
+        Line::Next(answer, count, following) => {
             print_line(position, answer, &output[..count]);
-            after
+            following
         }
         Line::Last(answer) => {
             print_line(position, answer, &output[..0]);
@@ -134,11 +134,24 @@ fn print_records(scheme: &[u8], log: &[u8], network: &mut [u8], output: &mut [u1
     }
 }
 
-// Prints what the log program prints of these two files' bytes.
-pub fn print(scheme: &[u8], log: &[u8], network: &mut [u8], output: &mut [u16]) {
+fn print_lines(scheme: &[u8], log: &[u8], network: &mut [u8], output: &mut [u16]) {
     let start = begin(scheme, log, network);
     match start {
         Start::Fresh(size) => print_records(scheme, log, &mut network[..size], output),
         Start::Refused(number) => print_line(0, number, &output[..0]),
     }
+}
+
+// The output of a list, for the most members.
+fn places() -> [u16; 256]
+    ensures { λ r. ⌜ 256 ≡ length r ⌝ }
+{
+    [0; 256]
+}
+
+// Prints what the log program prints of these two files' bytes.
+pub fn print(scheme: &[u8], log: &[u8]) {
+    let mut network = io::large_buffer();
+    let mut output = places();
+    print_lines(scheme, log, &mut network, &mut output);
 }

@@ -74,12 +74,6 @@ same-length-4 c = search needs
 same-length-5 : tie.Need-same-length-5
 same-length-5 c = search needs
 
-same-length-6 : tie.Need-same-length-6
-same-length-6 c = search needs
-
-same-length-7 : tie.Need-same-length-7
-same-length-7 c = search needs
-
 returns-3 : tie.Need-returns-3
 returns-3 c = search needs
 
@@ -109,6 +103,4 @@ run-case-spec =
     end-requires
     same-length-4
     same-length-5
-    same-length-6
-    same-length-7
     returns-3)

@@ -7,11 +7,11 @@ use Rattle.log_cases.proofs.run_cases.Statement.{statement}
 use Rattle.log_cases.proofs.run_cases.Tie as tie
 
 abbrev Inv-loop : tie.InvT-loop
-Inv-loop scheme₀ log₀ network₀ output₀ number₀ scheme log network output number =
-    (length scheme ≡ length scheme₀) × (length log ≡ length log₀) × (length network ≡ length network₀) × (length output ≡ length output₀) × (number ≤ 1000000)
+Inv-loop scheme₀ log₀ number₀ scheme log number =
+    (length scheme ≡ length scheme₀) × (length log ≡ length log₀) × (number ≤ 1000000)
 
 abbrev μ-loop : tie.MeasureT-loop
-μ-loop scheme₀ log₀ network₀ output₀ number₀ scheme log network output number = 1000000 - number
+μ-loop scheme₀ log₀ number₀ scheme log number = 1000000 - number
 
 loop-holds : tie.Need-loop-holds Inv-loop μ-loop
 loop-holds c = search needs
@@ -34,26 +34,14 @@ same-length c = search needs
 same-length-2 : tie.Need-same-length-2 Inv-loop μ-loop
 same-length-2 c = search needs
 
+returns : tie.Need-returns Inv-loop μ-loop
+returns c = search needs
+
 same-length-3 : tie.Need-same-length-3 Inv-loop μ-loop
 same-length-3 c = search needs
 
 same-length-4 : tie.Need-same-length-4 Inv-loop μ-loop
 same-length-4 c = search needs
-
-returns : tie.Need-returns Inv-loop μ-loop
-returns c = search needs
-
-same-length-5 : tie.Need-same-length-5 Inv-loop μ-loop
-same-length-5 c = search needs
-
-same-length-6 : tie.Need-same-length-6 Inv-loop μ-loop
-same-length-6 c = search needs
-
-same-length-7 : tie.Need-same-length-7 Inv-loop μ-loop
-same-length-7 c = search needs
-
-same-length-8 : tie.Need-same-length-8 Inv-loop μ-loop
-same-length-8 c = search needs
 
 returns-2 : tie.Need-returns-2 Inv-loop μ-loop
 returns-2 c = search needs
@@ -71,11 +59,7 @@ run-cases-spec =
     loop-again
     same-length
     same-length-2
+    returns
     same-length-3
     same-length-4
-    returns
-    same-length-5
-    same-length-6
-    same-length-7
-    same-length-8
     returns-2)

@@ -5,8 +5,8 @@ use lib.Seq.{length-take-le}
 use denote.Ref.{now}
 use Rattle.replay.proofs.Starting.{fits-in}
 use borrow.Author.Needs.{needs}
-use Rattle.replay.proofs.print.Statement.{statement}
-use Rattle.replay.proofs.print.Tie as tie
+use Rattle.replay.proofs.print_lines.Statement.{statement}
+use Rattle.replay.proofs.print_lines.Tie as tie
 
 begin-requires : tie.Need-begin-requires
 begin-requires c κs = search needs
@@ -59,8 +59,8 @@ same-length-4 c = search needs
 returns-2 : tie.Need-returns-2
 returns-2 c = search needs
 
-pub print-spec : {M : Type 1} → statement M
-print-spec =
+pub print-lines-spec : {M : Type 1} → statement M
+print-lines-spec =
     tie.close
     (tie.spec
     begin-requires
