@@ -1,11 +1,10 @@
 -- The line of the record that was read.
 use Prim.Native.Nat.{ℕ, _≤_, _<_}
-use mathlib.Core.Path.{_≡_, refl, sym, _∙_, ap}
+use mathlib.Core.Path.{_≡_, refl, _∙_, ap}
 use mathlib.Core.List.{List}
 use mathlib.Core.Logic.{inl, inr}
 use native.Mathlib.Omega.{arith}
-use lib.ListN.{length, take, drop, take-append-drop, length-append}
-use lib.Seq.{drop-at}
+use lib.ListN.{length}
 use Rattle.model.specs.Requests.{Request, event, set-policy, find, list, view}
 use Rattle.model.specs.Calls.{Called}
 use Rattle.model.specs.Log.{Outcome, request, RequestAt, placeAfter}
@@ -13,12 +12,10 @@ use Rattle.log.specs.Read.{outcome, Read}
 use Rattle.log.specs.declared.Answer.{Answer}
 use Rattle.requests.specs.Answered.{answered, numberOf, countOf, ListCalled}
 use Rattle.requests.specs.declared.Listed.{Listed}
+use Rattle.requests.proofs.Leaving.{list-left}
 use Rattle.replay.specs.Lines.{Lined, Followed}
 use Rattle.replay.specs.declared.Line.{Line}
 use Rattle.replay.specs.declared.Line.the-variants.{Next, Last, End}
-
-length-take-short : (n : ℕ) (l : List ℕ) → length (take n l) ≤ length l
-length-take-short n l = omega (arith, length-append (take n l) (drop n l), ap length (take-append-drop n l))
 
 module _ (b log : List ℕ) (k : ℕ) (net out : List ℕ) (said : Answer) (place : ℕ) (r : Read log k said place) (line : Line) where
   -- a request that writes no list
@@ -39,18 +36,13 @@ module _ (b log : List ℕ) (k : ℕ) (net out : List ℕ) (said : Answer) (plac
       → line ≡ Next answer count place → answer ≡ numberOf told → count ≡ countOf told → ListCalled b net v u out told left
       → Lined b log k net out line net left
   friends answer count v u told left o e ea ec c =
-      let written : List ℕ = take (countOf told) left in
-      let counted : countOf told ≡ length written = c .filled .counted in
-      let stays : drop (countOf told) left ≡ drop (countOf told) out =
-      ap (λ (l : List ℕ). drop (countOf told) l) (c .filled .filled)
-      ∙ drop-at written (drop (length written) out) (countOf told) (sym counted)
-      ∙ ap (λ (i : ℕ). drop i out) (sym counted) in
+      let (few, stays) = list-left b net v u out told left c in
       rw (e, ea, ec) (
         list v u (length out),
         rw o at (r .says (length out)),
         r .moves (length out) ∙ ap (λ (x : Outcome). placeAfter log k x) o,
         c .called,
-        omega (arith, length-take-short (countOf told) left),
+        few,
         stays,
       )
 

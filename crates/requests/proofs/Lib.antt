@@ -5,3 +5,4 @@ pub mod Opening
 pub mod Setting
 pub mod Writing
 pub mod Turning
+pub mod Leaving

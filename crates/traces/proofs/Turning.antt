@@ -4,8 +4,8 @@ use mathlib.Core.Path.{_≡_, refl, sym, _∙_, ap}
 use mathlib.Core.List.{List, [], _∷_, _++_}
 use native.Mathlib.Omega.{arith}
 use native.Mathlib.Numerals.{add-one}
-use lib.ListN.{length, getD, take, drop, set, take-append-drop, length-append}
-use lib.Seq.{take-suc-set, drop-at, drop-drop, drop-set-lt, getD-set-same, getD-set-other}
+use lib.ListN.{length, getD, take, drop, set}
+use lib.Seq.{take-suc-set, drop-drop, drop-set-lt, getD-set-same, getD-set-other}
 use denote.Ref.{RefT}
 use Rattle.model.specs.Requests.{Request, event, set-policy, find, view, Turn}
 use Rattle.model.specs.Calls.{Called}
@@ -14,14 +14,12 @@ use Rattle.model.specs.Traces.{Trace, turns, lastBytes, Happens}
 use Rattle.model.proofs.Tracing.{every-trace, every-trace-from}
 use Rattle.requests.specs.Answered.{answered, numberOf, countOf, ListCalled}
 use Rattle.requests.specs.declared.Listed.{Listed}
+use Rattle.requests.proofs.Leaving.{list-left}
 use Rattle.traces.specs.Cite.{CallMade}
 use Rattle.traces.specs.Ran.{requestOf, requestAt, asked, rowOf, listsOf, answersOf, writtenOf, Stepped, Turned, Kept, Ran}
 use Rattle.traces.proofs.Sound.{sound}
 use Rattle.traces.proofs.Refusing.{all-refused}
 use Rattle.traces.proofs.Rows.{row-written, front-kept, behind-kept, lists-written, place-kept}
-
-length-take-short : (n : ℕ) (l : List ℕ) → length (take n l) ≤ length l
-length-take-short n l = omega (arith, length-append (take n l) (drop n l), ap length (take-append-drop n l))
 
 ref : List ℕ → RefT (List ℕ)
 ref l = record { ptr = (0, 0); name = 0; now = l }
@@ -47,15 +45,10 @@ module _ (b net : List ℕ) (kind x y z k count : ℕ) (row left : List ℕ) whe
       → Stepped b net kind x y z row k count left net
   unfolding ref
   stepped-list told places ek ec e c =
-      let written : List ℕ = take (countOf told) left in
-      let counted : countOf told ≡ length written = c .filled .counted in
-      let stays : drop (countOf told) left ≡ drop (countOf told) row =
-      ap (λ (l : List ℕ). drop (countOf told) l) (c .filled .filled)
-      ∙ drop-at written (drop (length written) row) (countOf told) (sym counted)
-      ∙ ap (λ (i : ℕ). drop i row) (sym counted) in
+      let (few, stays) = list-left b net x y row told left c in
       rw (e, ek, ec) (
         (([], ([], ([], tt))), ref b, ref net, ref row, told, left, refl, refl, places, refl, refl, (refl, c)),
-        omega (arith, length-take-short (countOf told) left),
+        few,
         stays,
       )
 
