@@ -114,7 +114,7 @@ fn run_network(
     let Reading::Accepted(c) = reading else {
         return false;
     };
-    if !network::valid::valid(scheme, c, network) {
+    if !validity::valid(scheme, c, network) {
         return false;
     }
     run_questions(number, scheme, c, network, count, distances, rows)

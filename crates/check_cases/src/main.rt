@@ -22,7 +22,7 @@ fn print_counts(c: Counts) {
 fn print_valid(number: u64, scheme: &[u8], c: Counts, network: &[u8])
     requires { ⌜ ReadAs (now scheme) c ⌝ }
 {
-    let is_valid = network::valid::valid(scheme, c, network);
+    let is_valid = validity::valid(scheme, c, network);
     print_start(number, b" valid");
     printing::next(if is_valid { 1 } else { 0 });
     printing::end();
@@ -44,7 +44,7 @@ fn print_check(number: u64, scheme: &[u8], network: &[u8]) {
 
 // A case's line on its network made fresh.
 fn print_fresh(number: u64, scheme: &[u8], network: &mut [u8]) {
-    let answer = network::fresh::fresh(scheme, network);
+    let answer = fresh::fresh(scheme, network);
     print_start(number, b" fresh");
     printing::answer(answer);
     printing::next(cases::sum(network));

@@ -10,9 +10,11 @@ use borrow.Author.Tests.{not-true, not-false}
 use lib.ListN.{length}
 use Rattle.model.specs.Graph.{Graph, Friends, Mutual, Among, Clique}
 use Rattle.model.proofs.Cliques.{Other, mutual-friends, friend-of-all, mutual-member, Without, without}
-use Rattle.network.specs.Rows.{rowBit, FriendRow}
-use Rattle.clique.specs.Cliques.{rowOf, AllRows, Undirected, LargestClique}
-use Rattle.clique.specs.Sets.{Meet, Has, NotEmpty, Holds, RowsOf, Inside, TellsEach}
+use Rattle.sets.specs.Rows.{rowBit, FriendRow}
+use Rattle.sets.specs.Rows.{rowOf, AllRows}
+use Rattle.clique.specs.Cliques.{Undirected, LargestClique}
+use Rattle.sets.specs.Sets.{Meet, Has, NotEmpty}
+use Rattle.clique.specs.Mutual.{Holds, RowsOf, Inside, TellsEach}
 
 never : {b : Bool} → b ≡ true → b ≡ false → ⊥
 never t f = let z : _≡_ {A = ℕ} 0 1 = cc in omega arith

@@ -1,20 +1,9 @@
--- All friend rows of a graph, and the largest clique with two members.
-use Prim.Native.Nat.{ℕ, _+_, _*_, _≤_, _<_}
+-- The largest clique with two members.
+use Prim.Native.Nat.{ℕ, _≤_}
 use mathlib.Core.Path.{_≡_}
 use mathlib.Core.Bool.{false}
-use mathlib.Core.List.{List, [], _∷_}
 use mathlib.Core.Logic.{_↔_}
-use lib.ListN.{getD}
 use Rattle.model.specs.Graph.{Graph, Clique}
-use Rattle.network.specs.Rows.{FriendRow}
-
--- the four words of member m's row
-abbrev pub rowOf : List ℕ → ℕ → List ℕ
-rowOf rows m = getD rows (m * 4) 0 ∷ getD rows (m * 4 + 1) 0 ∷ getD rows (m * 4 + 2) 0 ∷ getD rows (m * 4 + 3) 0 ∷ []
-
--- the rows of all members, one after the other
-abbrev pub AllRows : Graph → List ℕ → Type 0
-AllRows g rows = (m : ℕ) → m < g .members → FriendRow g m (rowOf rows m)
 
 -- friendship goes both ways, and nobody is its own friend
 pub record Undirected (g : Graph) : Type 0 where

@@ -1,2 +1,2 @@
 pub mod Cliques
-pub mod Sets
+pub mod Mutual

@@ -140,14 +140,14 @@ fn walk(
         low = m;
         if allows(scheme, c, network, distances, rows, m, 1, v) {
             first = first_unseen(c.members, state, first);
-            let mut k = network::next::friend(scheme, c, marks, network, m, state, first);
+            let mut k = next_friend::friend(scheme, c, marks, network, m, state, first);
             while k < c.members {
                 if k == u {
                     break 'walk true;
                 }
                 state[k] = 1;
                 low = lesser(low, k);
-                k = network::next::friend(scheme, c, marks, network, m, state, k + 1);
+                k = next_friend::friend(scheme, c, marks, network, m, state, k + 1);
             }
         }
     };

@@ -33,7 +33,7 @@ pub extern "C" fn gatekeeper_network_length(scheme: &[u8]) -> usize
 pub extern "C" fn gatekeeper_fresh(scheme: &[u8], network: &mut [u8]) -> u8
     ensures { λ k. ⌜ Freshened (now (scheme .entry)) (now (network .entry)) k (now (network .exit)) ⌝ }
 {
-    network::fresh::fresh(scheme, network)
+    fresh::fresh(scheme, network)
 }
 
 // Event: v uses primitive a towards u.

@@ -1,5 +1,1 @@
-pub mod Filling
-pub mod Passing
 pub mod Reading
-pub mod RowBits
-pub mod Validity

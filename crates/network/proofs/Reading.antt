@@ -3,12 +3,13 @@ use Prim.Native.Nat.{ℕ, _+_, _*_, _%_, _<_, _≤_, min, max}
 use mathlib.Core.Path.{_≡_, sym, ap, _∙_}
 use mathlib.Core.Bool.{Bool, false, and-false}
 use mathlib.Core.List.{List}
+use native.Mathlib.Nat.{mul-le-mul, mul-le-mul-right, suc-mul}
 use native.Mathlib.Numerals.{add-one}
 use native.Mathlib.Omega.{arith}
 use borrow.Author.Tests.{eq-eqb, ne-eqb, lt-ltb, le-ltb}
 use lib.ListN.{length, getD}
 use Rattle.model.specs.Bytes.{bit}
-use Rattle.model.specs.Network.{Maps, pairs, pairPlace, settingPlace, held, stateOf}
+use Rattle.model.specs.Network.{Maps, pairs, pairPlace, settingPlace, size, held, stateOf}
 use Rattle.model.specs.SchemeBytes.{n, A, I, P, schemeOf}
 use Rattle.model.proofs.Bits.{bit-below}
 use Rattle.model.proofs.Held.{held-state, held-setting, other-state}
@@ -102,3 +103,23 @@ module _ {b : List ℕ} {c : Counts} {net : List ℕ} (h : Ready b c net) where
         f ∙ friends-marked set i j q marks (omega arith) d (λ z. omega arith) x l,
         f ∙ friends-marked set j i q marks d (omega arith) (λ z. omega arith) y l,
       )
+
+-- the place of the next member's setting, a stride further, and that it is within the last's
+pub stride-next : (at stride m members : ℕ) {k : ℕ} → k ≡ at + m * stride → m < members → (k + stride ≡ at + (m + 1) * stride) × (k + stride ≤ at + members * stride)
+stride-next at stride m members e h =
+    let n : (m + 1) * stride ≡ m * stride + stride = rw (add-one, suc-mul) in
+    let l : (m + 1) * stride ≤ members * stride = mul-le-mul-right stride (omega arith) in
+    (omega arith, omega arith)
+
+-- where the settings stand, and how many there are
+module _ {b : List ℕ} {c : Counts} (h : ReadAs b c) {from resources : ℕ}
+    (f : from ≡ pairs (c .members)) (e : resources ≡ 2 + c .primitives + c .items) where
+  pub settings-end : from + c .members * resources ≡ size (schemeOf b)
+  settings-end = rw (f, e, h .counts .members, h .counts .primitives, h .counts .items)
+
+  pub settings-small : c .members * resources ≤ 6656
+  settings-small =
+      let m : c .members ≤ 256 = omega (arith, h .range) in
+      let r : resources ≤ 26 = omega (arith, h .range) in
+      let p : c .members * resources ≤ 256 * 26 = mul-le-mul m r in
+      omega arith

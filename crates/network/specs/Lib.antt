@@ -1,4 +1,1 @@
-pub mod Fill
-pub mod Next
 pub mod Ready
-pub mod Rows

@@ -1,6 +1,2 @@
-// The network: its bytes, the fresh network, validity, friend rows, and the next friend (document 01, "Network").
-pub mod fresh;
-pub mod next;
+// The network: reads of its bytes (document 01, "Network").
 pub mod read;
-pub mod rows;
-pub mod valid;

@@ -17,9 +17,10 @@ use Rattle.tables.specs.declared.Rule.{Rule}
 use Rattle.tables.specs.declared.Rule.the-variants.{Within, Known, Clique}
 use Rattle.network.specs.Ready.{Ready, graphOf}
 use Rattle.network.proofs.Reading.{ready-range}
-use Rattle.clique.specs.Cliques.{AllRows, LargestClique}
-use Rattle.clique.specs.Sets.{RowsOf}
-use Rattle.clique.proofs.Networks.{network-undirected}
+use Rattle.sets.specs.Rows.{AllRows}
+use Rattle.clique.specs.Cliques.{LargestClique}
+use Rattle.clique.specs.Mutual.{RowsOf}
+use Rattle.policies.proofs.Undirected.{network-undirected}
 use Rattle.distance.specs.Distances.{Distances}
 use Rattle.policies.specs.Admission.{Admitted, NextRule}
 use Rattle.policies.specs.Reading.{kindOf, Shares, CliqueSize}

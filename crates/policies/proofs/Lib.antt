@@ -2,3 +2,4 @@ pub mod Reaching
 pub mod ByKind
 pub mod Granting
 pub mod Preparing
+pub mod Undirected

@@ -11,8 +11,9 @@ use Rattle.model.specs.SchemeBytes.{P, schemeOf}
 use Rattle.tables.specs.Rules.{RuleAt}
 use Rattle.tables.specs.declared.Rule.{Rule}
 use Rattle.network.specs.Ready.{graphOf}
-use Rattle.network.specs.Rows.{FriendRow}
-use Rattle.clique.specs.Cliques.{rowOf, AllRows, LargestClique}
+use Rattle.sets.specs.Rows.{FriendRow}
+use Rattle.sets.specs.Rows.{rowOf, AllRows}
+use Rattle.clique.specs.Cliques.{LargestClique}
 use Rattle.distance.specs.Distances.{Distances}
 use Rattle.policies.specs.Reading.{kindOf, SomeOfKind, Shares}
 

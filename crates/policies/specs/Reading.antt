@@ -9,7 +9,7 @@ use Rattle.model.specs.SchemeBytes.{schemeOf}
 use Rattle.tables.specs.Rules.{policyOfRule, RuleFits}
 use Rattle.tables.specs.declared.Rule.{Rule}
 use Rattle.clique.specs.Cliques.{LargestClique}
-use Rattle.clique.specs.Sets.{RowsOf}
+use Rattle.clique.specs.Mutual.{RowsOf}
 
 -- the number of a policy's kind
 abbrev pub kindOf : Policy → ℕ

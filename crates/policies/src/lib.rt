@@ -11,8 +11,8 @@ ghost use Rattle.model.specs.SchemeBytes.{schemeOf, sideOf};
 ghost use Rattle.tables.specs.Read.{ReadAs, MarksOf};
 ghost use Rattle.tables.specs.Rules.{policyOfRule};
 ghost use Rattle.network.specs.Ready.{Ready, graphOf};
-ghost use Rattle.network.specs.Rows.{FriendRow};
-ghost use Rattle.clique.specs.Cliques.{rowOf};
+ghost use Rattle.sets.specs.Rows.{FriendRow};
+ghost use Rattle.sets.specs.Rows.{rowOf};
 ghost use Rattle.policies.specs.Admission.{Prepared, Admitted, NextRule};
 ghost use Rattle.policies.specs.Reading.{kindOf, Reach, Farthest, SomeOfKind, Shares, CliqueSize};
 
@@ -93,12 +93,12 @@ pub fn prepare(
         distance::fill(scheme, c, marks, network, v, limit, distances);
     }
     if some_of(scheme, c, c.policies, 5) {
-        clique::fill_rows(scheme, c, marks, network, rows);
+        rows::fill_rows(scheme, c, marks, network, rows);
         return;
     }
     if some_of(scheme, c, c.policies, 4) {
-        let row = network::rows::friend_row(scheme, c, marks, network, v);
-        clique::put_row(rows, v, row);
+        let row = rows::friend_row(scheme, c, marks, network, v);
+        sets::put_row(rows, v, row);
     }
 }
 
@@ -121,13 +121,13 @@ fn common(
     if u == v {
         return 255;
     }
-    let of_v = clique::row(rows, v);
-    if clique::has(of_v, u) {
+    let of_v = sets::row(rows, v);
+    if sets::has(of_v, u) {
         return 255;
     }
     let marks = tables::marks(scheme, c);
-    let of_u = network::rows::friend_row(scheme, c, marks, network, u);
-    network::rows::shared(of_u, of_v) as usize
+    let of_u = rows::friend_row(scheme, c, marks, network, u);
+    sets::shared(of_u, of_v) as usize
 }
 
 // Kind 5, where it is asked: the size of the largest clique with u and v, where they are two.

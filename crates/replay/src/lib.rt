@@ -36,7 +36,7 @@ pub fn begin(scheme: &[u8], log: &[u8], network: &mut [u8]) -> Start
     if network.len() < size {
         return Start::Refused(5);
     }
-    network::fresh::fresh(scheme, &mut network[..size]);
+    fresh::fresh(scheme, &mut network[..size]);
     Start::Fresh(size)
 }
 

@@ -32,7 +32,7 @@ fn open(scheme: &[u8], network: &[u8]) -> Reading
     let Reading::Accepted(c) = reading else {
         return reading;
     };
-    if !network::valid::valid(scheme, c, network) {
+    if !validity::valid(scheme, c, network) {
         return Reading::Refused(5);
     }
     Reading::Accepted(c)

@@ -3,7 +3,7 @@ use mathlib.Core.Path.{sym, _∙_}
 use mathlib.Core.Bool.{true, false}
 use native.Mathlib.Omega.{arith}
 use borrow.Author.Tests.{not-true, not-false}
-use Rattle.clique.specs.Sets.{TellsEach}
+use Rattle.clique.specs.Mutual.{TellsEach}
 use Rattle.clique.proofs.Holding.{Largest, some-member, none-asked, tells-yes, tells-no, no-friends, friends-with}
 use borrow.Author.Needs.{needs}
 use Rattle.clique.proofs.largest.Statement.{statement}

@@ -7,7 +7,7 @@ use denote.Ref.{now}
 use Rattle.model.proofs.Deciding.{decided, refused, is-true}
 use Rattle.network.specs.Ready.{graphOf}
 use Rattle.network.proofs.Reading.{ready-read, ready-range}
-use Rattle.clique.proofs.Networks.{network-undirected}
+use Rattle.policies.proofs.Undirected.{network-undirected}
 use Rattle.policies.proofs.ByKind.{shares-all, shares-counted}
 use borrow.Author.Needs.{needs}
 use Rattle.policies.proofs.common.Statement.{statement}

@@ -7,7 +7,7 @@ use Rattle.requests.proofs.open.Statement.{statement}
 use Rattle.requests.proofs.open.Tie as tie
 use Rattle.requests.proofs.open.Reads as reads
 use Rattle.requests.proofs.open.Lts as lts
-use Rattle.network.proofs.valid.valid.Reads as valid-reads
+use Rattle.validity.proofs.valid.Reads as valid-reads
 use Rattle.scheme.proofs.check.Reads as check-reads
 
 -- src/lib.rt:26:9

@@ -3,7 +3,7 @@ use mathlib.Core.Path.{_≡_}
 use native.Mathlib.Omega.{arith}
 use Rattle.model.specs.Network.{size as sizeOf}
 use Rattle.model.specs.SchemeBytes.{schemeOf}
-use Rattle.network.proofs.Validity.{settings-end, settings-small}
+use Rattle.network.proofs.Reading.{settings-end, settings-small}
 use borrow.Author.Needs.{needs}
 use Rattle.network.proofs.read.size.Statement.{statement}
 use Rattle.network.proofs.read.size.Tie as tie

@@ -1,0 +1,36 @@
+-- The mutual friends that a set holds.
+use Prim.Native.Nat.{ℕ, _≤_, _<_}
+use mathlib.Core.Path.{_≡_}
+use mathlib.Core.Bool.{Bool, true}
+use mathlib.Core.List.{List}
+use lib.ListN.{length}
+use Rattle.model.specs.Graph.{Graph, Mutual, Among}
+use Rattle.sets.specs.Rows.{AllRows}
+use Rattle.sets.specs.Sets.{Has}
+use Rattle.clique.specs.Cliques.{Undirected}
+
+-- the set has j different members, none below from, that are all friends of each other
+pub record Holds (g : Graph) (set : List ℕ) (from j : ℕ) : Type 0 where
+  pub list : List ℕ
+  pub long : length list ≡ j
+  pub friends : Mutual g list
+  pub inside : (m : ℕ) → Among m list → Has set m × (from ≤ m)
+
+-- whether the set has j mutual members: yes only where it does, and yes where it does with none of them below from
+pub record Tells (g : Graph) (set : List ℕ) (from j : ℕ) (answer : Bool) : Type 0 where
+  pub sound : answer ≡ true → Holds g set 0 j
+  pub complete : Holds g set from j → answer ≡ true
+
+-- the rows are those of the graph
+pub record RowsOf (g : Graph) (rows : List ℕ) : Type 0 where
+  pub each : AllRows g rows
+  pub few : g .members ≤ 256
+  pub undirected : Undirected g
+
+-- the set has members only
+abbrev pub Inside : Graph → List ℕ → Type 0
+Inside g set = (m : ℕ) → Has set m → m < g .members
+
+-- the answer tells so of every graph with these rows
+pub record TellsEach (rows set : List ℕ) (from j : ℕ) (answer : Bool) : Type 0 where
+  pub tells : (g : Graph) → RowsOf g rows → Inside g set → Tells g set from j answer

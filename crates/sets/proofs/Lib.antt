@@ -1,0 +1,2 @@
+pub mod CommonBits
+pub mod Words

@@ -1,0 +1,161 @@
+-- Rows as four words.
+use Prim.Native.Nat.{ℕ, zero, suc, _+_, _*_, _/_, _%_, _^_, _≤_, _<_}
+use mathlib.Core.Path.{_≡_, refl, sym, ap, _∙_}
+use mathlib.Core.Bool.{true, false, not, _&&_}
+use mathlib.Core.List.{List, [], _∷_}
+use native.Mathlib.Decide.{ℕ-discrete}
+use native.Mathlib.Omega.{arith}
+use borrow.Author.Tests.{eq-eqb, ne-eqb}
+use borrow.Kind.Array.{eInt, good-length}
+use denote.Array.{Array, each}
+use denote.Laws.{Is}
+use denote.Plain.{UInt}
+use denote.Shadow.{shadow}
+use mir.Syntax.{w64}
+use mir.Val.{Val}
+use lib.Arith.{digits-div, digits-mod}
+use lib.Bits.{bitAnd, bitOr, or-add-and, and-le-l, and-le-r}
+use lib.Dec.{eqb}
+use lib.ListN.{length, getD, set, length-set, List·getD-eq-default}
+use lib.Seq.{ext-getD, getD-set-same, getD-set-other}
+use Rattle.model.specs.Bytes.{bit}
+use Rattle.model.proofs.Bits.{digit-of-zero, bit-no, bit-and, some-bit}
+use Rattle.sets.specs.Sets.{RowPut, Meet, Has, NotEmpty}
+
+bit-of-zero : (p : ℕ) → bit 0 p ≡ false
+bit-of-zero p = bit-no 0 p (digit-of-zero p)
+
+-- ---- an array of four words, as it is passed by value
+
+each-fits : (xs : List ℕ) (us : List Val) → shadow (each ℕ (UInt w64 .own) xs us) → (i : ℕ) → getD xs i 0 < 2 ^ 64
+each-fits [] us s i = omega arith
+each-fits (x ∷ xs) [] s i = absurd s
+each-fits (x ∷ xs) (u ∷ us) s zero = s .0 .1
+each-fits (x ∷ xs) (u ∷ us) s (suc i) = each-fits xs us (s .1) i
+
+pub record Words (xs : List ℕ) : Type 0 where
+  pub four : length xs ≡ 4
+  pub fits : (i : ℕ) → getD xs i 0 < 2 ^ 64
+
+pub words : {xs : List ℕ} (vs : List Val) → Is (Array (UInt w64) 4) xs vs → Words xs
+words {xs} vs p = record { four = good-length (eInt w64) 4 xs vs p; fits = each-fits xs (p .0) (p .1 .1) }
+
+module _ {xs : List ℕ} (w : Words xs) where
+  four-words : (getD xs 0 0 ∷ getD xs 1 0 ∷ getD xs 2 0 ∷ getD xs 3 0 ∷ []) ≡ xs
+  four-words = ext-getD 0 _ xs (sym (w .four)) at
+    where
+      at : (i : ℕ) → i < 4 → getD (getD xs 0 0 ∷ getD xs 1 0 ∷ getD xs 2 0 ∷ getD xs 3 0 ∷ []) i 0 ≡ getD xs i 0
+      at zero h = refl
+      at (suc zero) h = refl
+      at (suc (suc zero)) h = refl
+      at (suc (suc (suc zero))) h = refl
+      at (suc (suc (suc (suc i)))) h = absurd (omega arith)
+
+  no-word : (q : ℕ) → getD xs (suc (suc (suc (suc q)))) 0 ≡ 0
+  no-word q = List·getD-eq-default xs 0 (omega (arith, w .four))
+
+-- ---- the operations on sets
+
+pub meet-words : (a b : List ℕ) → Words a → Words b
+    → Meet a b (bitAnd (getD a 0 0) (getD b 0 0) ∷ bitAnd (getD a 1 0) (getD b 1 0) ∷ bitAnd (getD a 2 0) (getD b 2 0) ∷ bitAnd (getD a 3 0) (getD b 3 0) ∷ [])
+meet-words a b v w = record { bits = λ m. word (m / 64) (m % 64) }
+  where
+    r : List ℕ
+    r = bitAnd (getD a 0 0) (getD b 0 0) ∷ bitAnd (getD a 1 0) (getD b 1 0) ∷ bitAnd (getD a 2 0) (getD b 2 0) ∷ bitAnd (getD a 3 0) (getD b 3 0) ∷ []
+
+    word : (q p : ℕ) → bit (getD r q 0) p ≡ (bit (getD a q 0) p && bit (getD b q 0) p)
+    word zero p = bit-and (getD a 0 0) (getD b 0 0) p
+    word (suc zero) p = bit-and (getD a 1 0) (getD b 1 0) p
+    word (suc (suc zero)) p = bit-and (getD a 2 0) (getD b 2 0) p
+    word (suc (suc (suc zero))) p = bit-and (getD a 3 0) (getD b 3 0) p
+    word (suc (suc (suc (suc q)))) p = bit-of-zero p ∙ sym (rw (no-word v q, bit-of-zero p))
+
+-- `a | b` is 0 where both are
+or-zero : (a b : ℕ) → bitOr a b ≡ 0 → (a ≡ 0) × (b ≡ 0)
+or-zero a b e = omega (arith, or-add-and a b, and-le-l a b, and-le-r a b)
+
+or-zeros : (a b : ℕ) → a ≡ 0 → b ≡ 0 → bitOr a b ≡ 0
+or-zeros a b d e = omega (arith, or-add-and a b)
+
+module _ (set : List ℕ) (w : Words set) where
+  abbrev any : ℕ
+  any = bitOr (bitOr (bitOr (getD set 0 0) (getD set 1 0)) (getD set 2 0)) (getD set 3 0)
+
+  any-zero : any ≡ 0 → (q : ℕ) → getD set q 0 ≡ 0
+  any-zero e =
+      let (x, d) = or-zero (bitOr (bitOr (getD set 0 0) (getD set 1 0)) (getD set 2 0)) (getD set 3 0) e in
+      let (y, c) = or-zero (bitOr (getD set 0 0) (getD set 1 0)) (getD set 2 0) x in
+      let (a, b) = or-zero (getD set 0 0) (getD set 1 0) y in
+      go a b c d
+    where
+      go : getD set 0 0 ≡ 0 → getD set 1 0 ≡ 0 → getD set 2 0 ≡ 0 → getD set 3 0 ≡ 0 → (q : ℕ) → getD set q 0 ≡ 0
+      go a b c d zero = a
+      go a b c d (suc zero) = b
+      go a b c d (suc (suc zero)) = c
+      go a b c d (suc (suc (suc zero))) = d
+      go a b c d (suc (suc (suc (suc q)))) = no-word w q
+
+  in-word : (q : ℕ) → (getD set q 0 ≡ 0 → ⊥) → (m : ℕ) × Has set m
+  in-word q n =
+      let (p, h, e) = some-bit 64 (getD set q 0) (omega arith) (w .fits q) in
+      (q * 64 + p, rw (digits-div q h, digits-mod q h) e)
+
+  pub any-member : NotEmpty set (not (eqb any 0))
+  any-member = record {
+    tells = (
+      some (ℕ-discrete (getD set 0 0) 0) (ℕ-discrete (getD set 1 0) 0) (ℕ-discrete (getD set 2 0) 0) (ℕ-discrete (getD set 3 0) 0),
+      λ (m, h). go m h (ℕ-discrete any 0),
+    );
+  }
+    where
+      some : Dec (getD set 0 0 ≡ 0) → Dec (getD set 1 0 ≡ 0) → Dec (getD set 2 0 ≡ 0) → Dec (getD set 3 0 ≡ 0) → not (eqb any 0) ≡ true → (m : ℕ) × Has set m
+      some (no n) b c d e = in-word 0 n
+      some (yes a) (no n) c d e = in-word 1 n
+      some (yes a) (yes b) (no n) d e = in-word 2 n
+      some (yes a) (yes b) (yes c) (no n) e = in-word 3 n
+      some (yes a) (yes b) (yes c) (yes d) e =
+          let z : any ≡ 0 = or-zeros (bitOr (bitOr (getD set 0 0) (getD set 1 0)) (getD set 2 0)) (getD set 3 0) (or-zeros (bitOr (getD set 0 0) (getD set 1 0)) (getD set 2 0) (or-zeros (getD set 0 0) (getD set 1 0) a b) c) d in
+          let t : _≡_ {A = ℕ} 0 1 = cc (rw (eq-eqb any 0 z) at e) in
+          absurd (omega arith)
+
+      go : (m : ℕ) → Has set m → Dec (any ≡ 0) → not (eqb any 0) ≡ true
+      go m h (no n) = rw (ne-eqb any 0 n)
+      go m h (yes e) = let z : _≡_ {A = ℕ} 0 1 = cc (h, ap (λ (x : ℕ). bit x (m % 64)) (any-zero e (m / 64)), bit-of-zero (m % 64)) in absurd (omega arith)
+
+-- ---- a row is written
+
+pub put-words : (rows row : List ℕ) (m : ℕ) → Words row → m * 4 + 4 ≤ length rows
+    → RowPut rows m row (set (set (set (set rows (m * 4) (getD row 0 0)) (m * 4 + 1) (getD row 1 0)) (m * 4 + 2) (getD row 2 0)) (m * 4 + 3) (getD row 3 0))
+put-words rows row m w h = record {
+  long = simp length-set;
+  here = rw (at₀, at₁, at₂, at₃) (four-words w);
+  kept = λ k b. rw (below (k * 4) (omega arith), below (k * 4 + 1) (omega arith), below (k * 4 + 2) (omega arith), below (k * 4 + 3) (omega arith));
+}
+  where
+    r₁ : List ℕ
+    r₁ = set rows (m * 4) (getD row 0 0)
+
+    r₂ : List ℕ
+    r₂ = set r₁ (m * 4 + 1) (getD row 1 0)
+
+    r₃ : List ℕ
+    r₃ = set r₂ (m * 4 + 2) (getD row 2 0)
+
+    r₄ : List ℕ
+    r₄ = set r₃ (m * 4 + 3) (getD row 3 0)
+
+    at₀ : getD r₄ (m * 4) 0 ≡ getD row 0 0
+    at₀ = getD-set-other r₃ _ _ _ 0 (omega arith) ∙ getD-set-other r₂ _ _ _ 0 (omega arith) ∙ getD-set-other r₁ _ _ _ 0 (omega arith) ∙ getD-set-same rows _ _ 0 (omega arith)
+
+    at₁ : getD r₄ (m * 4 + 1) 0 ≡ getD row 1 0
+    at₁ = getD-set-other r₃ _ _ _ 0 (omega arith) ∙ getD-set-other r₂ _ _ _ 0 (omega arith) ∙ getD-set-same r₁ _ _ 0 (simp length-set (omega arith))
+
+    at₂ : getD r₄ (m * 4 + 2) 0 ≡ getD row 2 0
+    at₂ = getD-set-other r₃ _ _ _ 0 (omega arith) ∙ getD-set-same r₂ _ _ 0 (simp length-set (omega arith))
+
+    at₃ : getD r₄ (m * 4 + 3) 0 ≡ getD row 3 0
+    at₃ = getD-set-same r₃ _ _ 0 (simp length-set (omega arith))
+
+    below : (j : ℕ) → j < m * 4 → getD r₄ j 0 ≡ getD rows j 0
+    below j b =
+        getD-set-other r₃ _ _ _ 0 (omega arith) ∙ getD-set-other r₂ _ _ _ 0 (omega arith) ∙ getD-set-other r₁ _ _ _ 0 (omega arith) ∙ getD-set-other rows _ _ _ 0 (omega arith)
