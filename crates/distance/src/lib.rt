@@ -5,7 +5,6 @@ ghost use Prim.Native.Nat.{ℕ, _+_, _<_, _≤_};
 ghost use lib.ListN.{length};
 ghost use Rattle.model.specs.Decides.{Decides};
 ghost use Rattle.model.specs.Graph.{Graph, Within};
-ghost use Rattle.tables.specs.Read.{MarksOf};
 ghost use Rattle.network.specs.Ready.{Ready, graphOf};
 ghost use Rattle.distance.specs.Distances.{Distances};
 ghost use Rattle.distance.specs.Marks.{Cleared, Marked, Spread, Layered};
@@ -41,20 +40,19 @@ fn unmarked(members: usize, distances: &[u16], from: usize) -> usize
 fn spread(
     scheme: &[u8],
     c: Counts,
-    marks: u16,
     network: &[u8],
     m: usize,
     mark: u16,
     from: usize,
     distances: &mut [u16],
 )
-    requires { ⌜ Ready (now scheme) c (now network) × MarksOf (now scheme) (c .states) marks × (m < c .members) × (0 < mark) × (length (now distances) ≡ 256) × Marked (c .members) (now distances) from ⌝ }
+    requires { ⌜ Ready (now scheme) c (now network) × (m < c .members) × (0 < mark) × (length (now distances) ≡ 256) × Marked (c .members) (now distances) from ⌝ }
     ensures { λ r. ⌜ Spread (graphOf (now (scheme .entry)) (now (network .entry))) (λ j k. j ≡ m) mark (now (distances .entry)) (now (distances .exit)) ⌝ }
 {
     let mut k: usize = from;
     while k < c.members {
         if distances[k] == 0 {
-            if network::read::friends(scheme, c, marks, network, k, m) {
+            if network::read::friends(scheme, c, network, k, m) {
                 distances[k] = mark;
             }
         }
@@ -66,12 +64,11 @@ fn spread(
 fn layer(
     scheme: &[u8],
     c: Counts,
-    marks: u16,
     network: &[u8],
     mark: u16,
     distances: &mut [u16],
 ) -> bool
-    requires { ⌜ Ready (now scheme) c (now network) × MarksOf (now scheme) (c .states) marks × (0 < mark) × (mark ≤ 255) × (length (now distances) ≡ 256) ⌝ }
+    requires { ⌜ Ready (now scheme) c (now network) × (0 < mark) × (mark ≤ 255) × (length (now distances) ≡ 256) ⌝ }
     ensures { λ r. ⌜ Layered (graphOf (now (scheme .entry)) (now (network .entry))) mark (now (distances .entry)) (c .members) (now (distances .exit)) r ⌝ }
 {
     let mut from: usize = 0;
@@ -80,7 +77,7 @@ fn layer(
     while m < c.members {
         if distances[m] == mark {
             from = unmarked(c.members, distances, from);
-            spread(scheme, c, marks, network, m, mark + 1, from, distances);
+            spread(scheme, c, network, m, mark + 1, from, distances);
             some = true;
         }
         m += 1;
@@ -92,13 +89,12 @@ fn layer(
 pub fn fill(
     scheme: &[u8],
     c: Counts,
-    marks: u16,
     network: &[u8],
     v: usize,
     limit: usize,
     distances: &mut [u16],
 )
-    requires { ⌜ Ready (now scheme) c (now network) × MarksOf (now scheme) (c .states) marks × (v < c .members) × (limit ≤ 255) × (length (now distances) ≡ 256) ⌝ }
+    requires { ⌜ Ready (now scheme) c (now network) × (v < c .members) × (limit ≤ 255) × (length (now distances) ≡ 256) ⌝ }
     ensures { λ r. ⌜ (length (now (distances .exit)) ≡ 256) × Distances (graphOf (now (scheme .entry)) (now (network .entry))) v limit (now (distances .exit)) ⌝ }
 {
     clear(distances);
@@ -106,7 +102,7 @@ pub fn fill(
     let last = limit as u16;
     let mut mark: u16 = 1;
     while mark <= last {
-        if !layer(scheme, c, marks, network, mark, distances) {
+        if !layer(scheme, c, network, mark, distances) {
             return;
         }
         mark += 1;

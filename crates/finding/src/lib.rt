@@ -5,7 +5,6 @@ ghost use Prim.Native.Nat.{ℕ, _+_, _<_, _≤_};
 ghost use lib.ListN.{length, getD};
 ghost use Rattle.model.specs.Decides.{Decides};
 ghost use Rattle.model.specs.Finding.{Finds, Allows};
-ghost use Rattle.tables.specs.Read.{MarksOf};
 ghost use Rattle.network.specs.Ready.{Ready, worldOf};
 ghost use Rattle.policies.specs.Admission.{Prepared};
 ghost use Rattle.finding.specs.Walks.{Begun, NobodyWaits, AllSeen, Waits, Unseen, Walk, Unmet, Searched, Walked};
@@ -36,13 +35,13 @@ fn unseen() -> [u8; 256]
 }
 
 // Marks the viewer and its friends.
-fn begin(scheme: &[u8], c: Counts, marks: u16, network: &[u8], v: usize, state: &mut [u8])
-    requires { ⌜ Ready (now scheme) c (now network) × MarksOf (now scheme) (c .states) marks × (v < c .members) × (length (now state) ≡ 256) × ((k : ℕ) → getD (now state) k 0 ≡ 0) ⌝ }
+fn begin(scheme: &[u8], c: Counts, network: &[u8], v: usize, state: &mut [u8])
+    requires { ⌜ Ready (now scheme) c (now network) × (v < c .members) × (length (now state) ≡ 256) × ((k : ℕ) → getD (now state) k 0 ≡ 0) ⌝ }
     ensures { λ r. ⌜ Begun (worldOf (now (scheme .entry)) (now (network .entry))) v (now (state .exit)) ⌝ }
 {
     let mut k: usize = 0;
     while k < c.members {
-        if network::read::friends(scheme, c, marks, network, v, k) {
+        if network::read::friends(scheme, c, network, v, k) {
             state[k] = 1;
         }
         k += 1;
@@ -118,7 +117,6 @@ fn lesser(x: usize, y: usize) -> usize
 fn walk(
     scheme: &[u8],
     c: Counts,
-    marks: u16,
     network: &[u8],
     distances: &[u16],
     rows: &[u64],
@@ -126,7 +124,7 @@ fn walk(
     u: usize,
     state: &mut [u8],
 ) -> bool
-    requires { ⌜ Ready (now scheme) c (now network) × MarksOf (now scheme) (c .states) marks × Prepared (now scheme) (now network) v (now distances) (now rows) × (v < c .members) × Walk (worldOf (now scheme) (now network)) v (now state) × Unmet (worldOf (now scheme) (now network)) u (now state) ⌝ }
+    requires { ⌜ Ready (now scheme) c (now network) × Prepared (now scheme) (now network) v (now distances) (now rows) × (v < c .members) × Walk (worldOf (now scheme) (now network)) v (now state) × Unmet (worldOf (now scheme) (now network)) u (now state) ⌝ }
     ensures { λ r. ⌜ Walked (worldOf (now (scheme .entry)) (now (network .entry))) v u (now (state .entry)) (now (state .exit)) r ⌝ }
 {
     let mut low: usize = 0;
@@ -140,14 +138,14 @@ fn walk(
         low = m;
         if allows(scheme, c, network, distances, rows, m, 1, v) {
             first = first_unseen(c.members, state, first);
-            let mut k = next_friend::friend(scheme, c, marks, network, m, state, first);
+            let mut k = next_friend::friend(scheme, c, network, m, state, first);
             while k < c.members {
                 if k == u {
                     break 'walk true;
                 }
                 state[k] = 1;
                 low = lesser(low, k);
-                k = next_friend::friend(scheme, c, marks, network, m, state, k + 1);
+                k = next_friend::friend(scheme, c, network, m, state, k + 1);
             }
         }
     };
@@ -158,27 +156,26 @@ fn walk(
 pub fn finds(
     scheme: &[u8],
     c: Counts,
-    marks: u16,
     network: &[u8],
     distances: &[u16],
     rows: &[u64],
     v: usize,
     u: usize,
 ) -> bool
-    requires { ⌜ Ready (now scheme) c (now network) × MarksOf (now scheme) (c .states) marks × Prepared (now scheme) (now network) v (now distances) (now rows) × (v < c .members) × (u < c .members) ⌝ }
+    requires { ⌜ Ready (now scheme) c (now network) × Prepared (now scheme) (now network) v (now distances) (now rows) × (v < c .members) × (u < c .members) ⌝ }
     ensures { λ r. ⌜ Decides r (Finds (worldOf (now (scheme .entry)) (now (network .entry))) v u) ⌝ }
 {
     let mut state = unseen();
-    begin(scheme, c, marks, network, v, &mut state);
+    begin(scheme, c, network, v, &mut state);
     if state[u] != 0 {
         return true; // v, or its friend
     }
     if allows(scheme, c, network, distances, rows, u, 0, v) {
         return true; // by search
     }
-    if walk(scheme, c, marks, network, distances, rows, v, u, &mut state) {
+    if walk(scheme, c, network, distances, rows, v, u, &mut state) {
         return true; // along a chain that begins at v or its friend
     }
     search(scheme, c, network, distances, rows, v, u, &mut state);
-    walk(scheme, c, marks, network, distances, rows, v, u, &mut state)
+    walk(scheme, c, network, distances, rows, v, u, &mut state)
 }

@@ -14,7 +14,7 @@ use Rattle.model.specs.SchemeBytes.{n, A, I, P, schemeOf}
 use Rattle.model.proofs.Bits.{bit-below}
 use Rattle.model.proofs.Held.{held-state, held-setting, other-state}
 use Rattle.model.proofs.Places.{pairs-suc, pairs-mono, pair-before, setting-before}
-use Rattle.tables.specs.Read.{InRange, ReadAs, MarksOf}
+use Rattle.tables.specs.Read.{InRange, ReadAs}
 use Rattle.tables.specs.declared.Counts.{Counts}
 use Rattle.scheme.proofs.Accepting.{accepted-read}
 use Rattle.network.specs.Ready.{Ready, graphOf}
@@ -82,26 +82,26 @@ module _ {b : List ℕ} {c : Counts} {net : List ℕ} (h : Ready b c net) where
       (sym e, omega (arith, e))
 
   -- two members are friends where their state is marked
-  pub friends-marked : (set u v q : ℕ) → MarksOf b (c .states) set → u < c .members → v < c .members → (u ≡ v → ⊥)
+  pub friends-marked : (u v q : ℕ) → u < c .members → v < c .members → (u ≡ v → ⊥)
       → q ≡ stateOf (held (schemeOf b) net) u v
       → q < c .states
-      → bit set q ≡ graphOf b net .friends u v
-  friends-marked set u v q marks k l d e s =
+      → bit (c .marks) q ≡ graphOf b net .friends u v
+  friends-marked u v q k l d e s =
       let x : u < n b = omega arith in
       let y : v < n b = omega arith in
-      marks .marked q s ∙ ap (schemeOf b .friendly) e ∙ simp (lt-ltb u (n b) x, lt-ltb v (n b) y, ne-eqb u v d)
+      h .marks .marked q s ∙ ap (schemeOf b .friendly) e ∙ simp (lt-ltb u (n b) x, lt-ltb v (n b) y, ne-eqb u v d)
 
   -- as the byte of a pair says
-  pub friends-byte : (set i j at : ℕ) {r : Bool} → MarksOf b (c .states) set → i < j → j < c .members → at ≡ pairPlace i j
-      → r ≡ bit set (getD net at 0 % 16)
+  pub friends-byte : (i j at : ℕ) {r : Bool} → i < j → j < c .members → at ≡ pairPlace i j
+      → r ≡ bit (c .marks) (getD net at 0 % 16)
       → (r ≡ graphOf b net .friends i j) × (r ≡ graphOf b net .friends j i)
-  friends-byte set i j at marks a d p e =
+  friends-byte i j at a d p e =
       let q : ℕ = getD net (pairPlace i j) 0 in
       let (x, y, l) = pair-held i j a d in
       let s : q % 16 ≡ q = omega (arith, ready-range) in
-      let f = e ∙ ap (λ (x : ℕ). bit set (getD net x 0 % 16)) p ∙ ap (bit set) s in (
-        f ∙ friends-marked set i j q marks (omega arith) d (λ z. omega arith) x l,
-        f ∙ friends-marked set j i q marks d (omega arith) (λ z. omega arith) y l,
+      let f = e ∙ ap (λ (x : ℕ). bit (c .marks) (getD net x 0 % 16)) p ∙ ap (bit (c .marks)) s in (
+        f ∙ friends-marked i j q (omega arith) d (λ z. omega arith) x l,
+        f ∙ friends-marked j i q d (omega arith) (λ z. omega arith) y l,
       )
 
 -- the place of the next member's setting, a stride further, and that it is within the last's

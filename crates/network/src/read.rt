@@ -5,7 +5,7 @@ ghost use Prim.Native.Nat.{_+_, _%_, _<_, _≤_};
 ghost use Rattle.model.specs.Bytes.{bit};
 ghost use Rattle.model.specs.Network.{held, stateOf, pairs as pairCount, size as sizeOf};
 ghost use Rattle.model.specs.SchemeBytes.{schemeOf};
-ghost use Rattle.tables.specs.Read.{ReadAs, MarksOf};
+ghost use Rattle.tables.specs.Read.{ReadAs};
 ghost use Rattle.network.specs.Ready.{Ready, graphOf};
 
 // How many pairs members have.
@@ -56,14 +56,14 @@ pub fn marked(marks: u16, q: u8) -> bool
     (marks >> (q % 16)) & 1 == 1
 }
 
-// Whether two members are friends; marks are the scheme's.
-pub fn friends(scheme: &[u8], c: Counts, marks: u16, network: &[u8], u: usize, v: usize) -> bool
-    requires { ⌜ Ready (now scheme) c (now network) × MarksOf (now scheme) (c .states) marks × (u < c .members) × (v < c .members) ⌝ }
+// Whether two members are friends.
+pub fn friends(scheme: &[u8], c: Counts, network: &[u8], u: usize, v: usize) -> bool
+    requires { ⌜ Ready (now scheme) c (now network) × (u < c .members) × (v < c .members) ⌝ }
     ensures { λ r. ⌜ r ≡ graphOf (now (scheme .entry)) (now (network .entry)) .friends u v ⌝ }
 {
     if u == v {
         return false;
     }
     let q = state(scheme, c, network, u, v);
-    marked(marks, q)
+    marked(c.marks, q)
 }

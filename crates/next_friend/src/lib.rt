@@ -2,7 +2,6 @@
 use tables::Counts;
 ghost use Prim.Native.Nat.{_<_, _≤_};
 ghost use lib.ListN.{length};
-ghost use Rattle.tables.specs.Read.{MarksOf};
 ghost use Rattle.network.specs.Ready.{Ready, graphOf};
 ghost use Rattle.next_friend.specs.Next.{Next};
 
@@ -10,20 +9,19 @@ ghost use Rattle.next_friend.specs.Next.{Next};
 fn below(
     scheme: &[u8],
     c: Counts,
-    marks: u16,
     network: &[u8],
     m: usize,
     seen: &[u8],
     from: usize,
 ) -> usize
-    requires { ⌜ Ready (now scheme) c (now network) × MarksOf (now scheme) (c .states) marks × (m < c .members) × (c .members ≤ length (now seen)) × (from ≤ m) ⌝ }
+    requires { ⌜ Ready (now scheme) c (now network) × (m < c .members) × (c .members ≤ length (now seen)) × (from ≤ m) ⌝ }
     ensures { λ r. ⌜ Next (graphOf (now (scheme .entry)) (now (network .entry))) m (now (seen .entry)) from m r ⌝ }
 {
     let at = network::read::pairs(m);
     let mut k = from;
     while k < m {
         if seen[k] == 0 {
-            if network::read::marked(marks, network[at + k]) {
+            if network::read::marked(c.marks, network[at + k]) {
                 return k;
             }
         }
@@ -36,20 +34,19 @@ fn below(
 fn above(
     scheme: &[u8],
     c: Counts,
-    marks: u16,
     network: &[u8],
     m: usize,
     seen: &[u8],
     from: usize,
 ) -> usize
-    requires { ⌜ Ready (now scheme) c (now network) × MarksOf (now scheme) (c .states) marks × (m < from) × (c .members ≤ length (now seen)) × (from ≤ c .members) ⌝ }
+    requires { ⌜ Ready (now scheme) c (now network) × (m < from) × (c .members ≤ length (now seen)) × (from ≤ c .members) ⌝ }
     ensures { λ r. ⌜ Next (graphOf (now (scheme .entry)) (now (network .entry))) m (now (seen .entry)) from (c .members) r ⌝ }
 {
     let mut at = network::read::pairs(from) + m;
     let mut k = from;
     while k < c.members {
         if seen[k] == 0 {
-            if network::read::marked(marks, network[at]) {
+            if network::read::marked(c.marks, network[at]) {
                 return k;
             }
         }
@@ -63,21 +60,20 @@ fn above(
 pub fn friend(
     scheme: &[u8],
     c: Counts,
-    marks: u16,
     network: &[u8],
     m: usize,
     seen: &[u8],
     from: usize,
 ) -> usize
-    requires { ⌜ Ready (now scheme) c (now network) × MarksOf (now scheme) (c .states) marks × (m < c .members) × (c .members ≤ length (now seen)) × (from ≤ c .members) ⌝ }
+    requires { ⌜ Ready (now scheme) c (now network) × (m < c .members) × (c .members ≤ length (now seen)) × (from ≤ c .members) ⌝ }
     ensures { λ r. ⌜ Next (graphOf (now (scheme .entry)) (now (network .entry))) m (now (seen .entry)) from (c .members) r ⌝ }
 {
     if m < from {
-        return above(scheme, c, marks, network, m, seen, from);
+        return above(scheme, c, network, m, seen, from);
     }
-    let k = below(scheme, c, marks, network, m, seen, from);
+    let k = below(scheme, c, network, m, seen, from);
     if k < m {
         return k;
     }
-    above(scheme, c, marks, network, m, seen, m + 1)
+    above(scheme, c, network, m, seen, m + 1)
 }

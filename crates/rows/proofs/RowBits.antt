@@ -23,7 +23,6 @@ use Rattle.model.proofs.Sets.{Added, added, left-out, none-in-zero}
 use Rattle.model.proofs.Counting.{count-ext, count-split, count-above}
 use Rattle.model.specs.Network.{pairs, pairPlace, held, stateOf}
 use Rattle.model.specs.SchemeBytes.{n as members, schemeOf}
-use Rattle.tables.specs.Read.{MarksOf}
 use Rattle.tables.specs.declared.Counts.{Counts}
 use Rattle.network.specs.Ready.{Ready, graphOf}
 use Rattle.sets.specs.Rows.{rowBit, FriendRow}
@@ -45,7 +44,10 @@ first-next {g} {u} {from} {n} {word} {word'} f a = record {
 pub first-skip : {g : Graph} {u from n word : ℕ} → FirstBits g u from n word → g .friends u (from + n) ≡ false → FirstBits g u from (n + 1) word
 first-skip {n = n} {word = word} f e = first-next f (rw e (left-out word n (f .none-above)))
 
-module _ {b net : List ℕ} {c : Counts} (ready : Ready b c net) {marks : ℕ} (of : MarksOf b (c .states) marks) where
+module _ {b net : List ℕ} {c : Counts} (ready : Ready b c net) where
+  abbrev marks : ℕ
+  marks = c .marks
+
   -- what the code does with the bit of a member whose state is q
   abbrev pub BitPut : ℕ → ℕ → ℕ → ℕ → Type 0
   BitPut q n word word' =
@@ -64,7 +66,7 @@ module _ {b net : List ℕ} {c : Counts} (ready : Ready b c net) {marks : ℕ} (
       same = omega (arith, ready-range ready)
 
       friends : bit marks (q % 16) ≡ graphOf b net .friends u (from + n)
-      friends = ap (bit marks) same ∙ friends-marked ready marks u (from + n) q of i j d e s
+      friends = ap (bit marks) same ∙ friends-marked ready u (from + n) q i j d e s
 
       set : (bitAnd (marks / 2 ^ (q % 16)) 1 ≡ 1) × (word' ≡ bitOr word (1 * 2 ^ n % 2 ^ 64)) → Added word n (graphOf b net .friends u (from + n)) word'
       set (y, w) = rw (w, ← friends, bit-yes marks (q % 16) (sym (shr-and-one marks (q % 16)) ∙ y)) (added 64 word n l (f .none-above))

@@ -3,7 +3,6 @@ use tables::Counts;
 ghost use mathlib.Core.Path.{_≡_};
 ghost use Prim.Native.Nat.{_+_, _<_, _≤_, min};
 ghost use lib.ListN.{length};
-ghost use Rattle.tables.specs.Read.{MarksOf};
 ghost use Rattle.network.specs.Ready.{Ready, graphOf};
 ghost use Rattle.sets.specs.Rows.{FriendRow, AllRows};
 ghost use Rattle.rows.specs.Words.{FirstBits};
@@ -19,20 +18,19 @@ fn least(x: usize, y: usize) -> usize
 fn lesser(
     scheme: &[u8],
     c: Counts,
-    marks: u16,
     network: &[u8],
     u: usize,
     from: usize,
     end: usize,
 ) -> u64
-    requires { ⌜ Ready (now scheme) c (now network) × MarksOf (now scheme) (c .states) marks × (u < c .members) × (from + end ≤ u) × (end ≤ 64) ⌝ }
+    requires { ⌜ Ready (now scheme) c (now network) × (u < c .members) × (from + end ≤ u) × (end ≤ 64) ⌝ }
     ensures { λ r. ⌜ FirstBits (graphOf (now (scheme .entry)) (now (network .entry))) u from end r ⌝ }
 {
     let at = network::read::pairs(u) + from;
     let mut bits: u64 = 0;
     let mut m: usize = 0;
     while m < end {
-        if (marks >> (network[at + m] % 16)) & 1 == 1 {
+        if (c.marks >> (network[at + m] % 16)) & 1 == 1 {
             bits = bits | (1u64 << m);
         }
         m += 1;
@@ -45,14 +43,13 @@ fn lesser(
 fn greater(
     scheme: &[u8],
     c: Counts,
-    marks: u16,
     network: &[u8],
     u: usize,
     from: usize,
     start: usize,
     below: u64,
 ) -> u64
-    requires { ⌜ Ready (now scheme) c (now network) × MarksOf (now scheme) (c .states) marks × (u < from + start) × (from ≤ 192) × (start ≤ 64) × FirstBits (graphOf (now scheme) (now network)) u from start below ⌝ }
+    requires { ⌜ Ready (now scheme) c (now network) × (u < from + start) × (from ≤ 192) × (start ≤ 64) × FirstBits (graphOf (now scheme) (now network)) u from start below ⌝ }
     ensures { λ r. ⌜ FirstBits (graphOf (now (scheme .entry)) (now (network .entry))) u from 64 r ⌝ }
 {
     let end = least(c.members, from + 64);
@@ -60,7 +57,7 @@ fn greater(
     let mut m = from + start;
     let mut at = network::read::pairs(m) + u;
     while m < end {
-        if (marks >> (network[at] % 16)) & 1 == 1 {
+        if (c.marks >> (network[at] % 16)) & 1 == 1 {
             bits = bits | (1u64 << (m - from));
         }
         at += m;
@@ -70,42 +67,42 @@ fn greater(
 }
 
 // The 64 bits of u's row from a member on.
-fn word(scheme: &[u8], c: Counts, marks: u16, network: &[u8], u: usize, from: usize) -> u64
-    requires { ⌜ Ready (now scheme) c (now network) × MarksOf (now scheme) (c .states) marks × (u < c .members) × (from ≤ 192) ⌝ }
+fn word(scheme: &[u8], c: Counts, network: &[u8], u: usize, from: usize) -> u64
+    requires { ⌜ Ready (now scheme) c (now network) × (u < c .members) × (from ≤ 192) ⌝ }
     ensures { λ r. ⌜ FirstBits (graphOf (now (scheme .entry)) (now (network .entry))) u from 64 r ⌝ }
 {
     if u < from {
-        return greater(scheme, c, marks, network, u, from, 0, 0);
+        return greater(scheme, c, network, u, from, 0, 0);
     }
     let count = least(u - from, 64);
-    let bits = lesser(scheme, c, marks, network, u, from, count);
+    let bits = lesser(scheme, c, network, u, from, count);
     if count == 64 {
         return bits;
     }
-    greater(scheme, c, marks, network, u, from, count + 1, bits)
+    greater(scheme, c, network, u, from, count + 1, bits)
 }
 
 // u's friends.
-pub fn friend_row(scheme: &[u8], c: Counts, marks: u16, network: &[u8], u: usize) -> [u64; 4]
-    requires { ⌜ Ready (now scheme) c (now network) × MarksOf (now scheme) (c .states) marks × (u < c .members) ⌝ }
+pub fn friend_row(scheme: &[u8], c: Counts, network: &[u8], u: usize) -> [u64; 4]
+    requires { ⌜ Ready (now scheme) c (now network) × (u < c .members) ⌝ }
     ensures { λ r. ⌜ FriendRow (graphOf (now (scheme .entry)) (now (network .entry))) u r ⌝ }
 {
     [
-        word(scheme, c, marks, network, u, 0),
-        word(scheme, c, marks, network, u, 64),
-        word(scheme, c, marks, network, u, 128),
-        word(scheme, c, marks, network, u, 192),
+        word(scheme, c, network, u, 0),
+        word(scheme, c, network, u, 64),
+        word(scheme, c, network, u, 128),
+        word(scheme, c, network, u, 192),
     ]
 }
 
 // Writes the friend rows of all members, four words each.
-pub fn fill_rows(scheme: &[u8], c: Counts, marks: u16, network: &[u8], rows: &mut [u64])
-    requires { ⌜ Ready (now scheme) c (now network) × MarksOf (now scheme) (c .states) marks × (length (now rows) ≡ 1024) ⌝ }
+pub fn fill_rows(scheme: &[u8], c: Counts, network: &[u8], rows: &mut [u64])
+    requires { ⌜ Ready (now scheme) c (now network) × (length (now rows) ≡ 1024) ⌝ }
     ensures { λ r. ⌜ (length (now (rows .exit)) ≡ 1024) × AllRows (graphOf (now (scheme .entry)) (now (network .entry))) (now (rows .exit)) ⌝ }
 {
     let mut m: usize = 0;
     while m < c.members {
-        sets::put_row(rows, m, friend_row(scheme, c, marks, network, m));
+        sets::put_row(rows, m, friend_row(scheme, c, network, m));
         m += 1;
     }
 }

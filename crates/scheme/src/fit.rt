@@ -9,7 +9,7 @@ ghost use Rattle.model.specs.Bytes.{byte, four as fourAt, NoBitFrom};
 ghost use Rattle.model.specs.SchemeBytes.{Records, BytesFit, PolicyFits, MaskFits};
 ghost use Rattle.tables.specs.Read.{CountsOf, InRange};
 
-// The five counts.
+// The five counts; the marks are read when the scheme is accepted.
 pub fn counts(s: &[u8]) -> Counts
     requires { ⌜ 10 ≤ length (now s) ⌝ }
     ensures { λ r. ⌜ CountsOf (now (s .entry)) r ⌝ }
@@ -20,6 +20,7 @@ pub fn counts(s: &[u8]) -> Counts
         primitives: records::wide(s[7]),
         items: records::wide(s[8]),
         policies: records::wide(s[9]),
+        marks: 0,
     }
 }
 

@@ -1,6 +1,7 @@
 // The scheme check (document 01, "Scheme", "Scheme check").
 use tables::Counts;
 ghost use mathlib.Core.Path.{_≡_};
+ghost use Rattle.tables.specs.Read.{CountsOf, ReadAs, MarksOf};
 ghost use Rattle.scheme.specs.Checked.{Checked, numberOf};
 
 mod fit;
@@ -10,6 +11,17 @@ mod strangers;
 pub enum Reading {
     Accepted(Counts),
     Refused(u8),
+}
+
+// The counts with the states that make friends.
+fn marked(scheme: &[u8], c: Counts) -> Counts
+    requires { ⌜ ReadAs (now scheme) c ⌝ }
+    ensures { λ r. ⌜ CountsOf (now (scheme .entry)) r × MarksOf (now (scheme .entry)) (r .states) (r .marks) ⌝ }
+{
+    let marks = tables::marks(scheme, c);
+    let mut read = c;
+    read.marks = marks;
+    read
 }
 
 // The scheme check.
@@ -32,7 +44,7 @@ pub fn check(scheme: &[u8]) -> Reading
     if !strangers::apart(scheme, counts) {
         return Reading::Refused(4);
     }
-    Reading::Accepted(counts)
+    Reading::Accepted(marked(scheme, counts))
 }
 
 // The number that a call gives back for a scheme that is not accepted.

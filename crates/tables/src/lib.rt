@@ -9,13 +9,14 @@ ghost use Rattle.model.specs.SchemeBytes.{at3, at4, at5, schemeOf};
 ghost use Rattle.tables.specs.Read.{CountsOf, InRange, ReadAs, MarksOf};
 ghost use Rattle.tables.specs.Rules.{RuleOf, RuleAt, ResourceOf};
 
-// The five counts of a scheme's head record.
+// What is read once of a scheme: the five counts of its head record, and the states that make friends, as a set.
 pub struct Counts {
     pub members: usize,
     pub states: usize,
     pub primitives: usize,
     pub items: usize,
     pub policies: usize,
+    pub marks: u16,
 }
 
 // A policy, by its kind.

@@ -18,10 +18,10 @@ inside : (b net : List ℕ) → Inside (graphOf b net)
 inside b net = world-inside (schemeOf b) (held (schemeOf b) net)
 
 abbrev Inv-loop : tie.InvT-loop
-Inv-loop scheme c marks network v limit distances₀ last mark₀ distances mark = (length distances ≡ 256) × (0 < mark) × (mark ≤ limit + 1) × Layers (graphOf scheme network) v mark distances
+Inv-loop scheme c network v limit distances₀ last mark₀ distances mark = (length distances ≡ 256) × (0 < mark) × (mark ≤ limit + 1) × Layers (graphOf scheme network) v mark distances
 
 abbrev μ-loop : tie.MeasureT-loop
-μ-loop scheme c marks network v limit distances₀ last mark₀ distances mark = limit + 1 - mark
+μ-loop scheme c network v limit distances₀ last mark₀ distances mark = limit + 1 - mark
 
 clear-requires : tie.Need-clear-requires Inv-loop μ-loop
 clear-requires c κs = omega arith
@@ -47,7 +47,7 @@ layer-requires : tie.Need-layer-requires Inv-loop μ-loop
 layer-requires c κs =
     let l = c .before .before in
     let p = l .before .before .before .before .before .before .before .before .pre in
-    (p .0, p .1, l .loop .inv .1, omega arith, l .loop .inv .0)
+    (p .0, l .loop .inv .1, omega arith, l .loop .inv .0)
 
 same-length : tie.Need-same-length Inv-loop μ-loop
 same-length c = omega (arith, c .before .before .before .layer .ensures .spread .size)

@@ -11,15 +11,15 @@ use Rattle.distance.proofs.layer.Statement.{statement}
 use Rattle.distance.proofs.layer.Tie as tie
 
 abbrev Inv-loop : tie.InvT-loop
-Inv-loop scheme c marks network mark distances₀ from₀ some₀ m₀ distances from some m = (m ≤ c .members) × Layered (graphOf scheme network) mark distances₀ m distances some × Marked (c .members) distances from
+Inv-loop scheme c network mark distances₀ from₀ some₀ m₀ distances from some m = (m ≤ c .members) × Layered (graphOf scheme network) mark distances₀ m distances some × Marked (c .members) distances from
 
 abbrev μ-loop : tie.MeasureT-loop
-μ-loop scheme c marks network mark distances₀ from₀ some₀ m₀ distances from some m = c .members - m
+μ-loop scheme c network mark distances₀ from₀ some₀ m₀ distances from some m = c .members - m
 
 loop-holds : tie.Need-loop-holds Inv-loop μ-loop
 loop-holds c = (
   omega arith,
-  record { spread = spread-none (c .before .before .before .pre .4) (λ j k t. absurd (omega (arith, t .0))); nobody = λ e j l. absurd (omega arith) },
+  record { spread = spread-none (c .before .before .before .pre .3) (λ j k t. absurd (omega (arith, t .0))); nobody = λ e j l. absurd (omega arith) },
   record { inside = omega arith; below = below-none _ },
 )
 
@@ -41,7 +41,7 @@ spread-requires : tie.Need-spread-requires Inv-loop μ-loop
 spread-requires c κs =
     let l = c .before .before .before .before .before .before .before in
     let s = l .before .before .before .before in
-    (s .pre .0, s .pre .1, omega arith, omega arith, l .loop .inv .1 .spread .size, c .before .unmarked .ensures)
+    (s .pre .0, omega arith, omega arith, l .loop .inv .1 .spread .size, c .before .unmarked .ensures)
 
 add-m : tie.Need-add-m Inv-loop μ-loop
 add-m c = omega arith
@@ -58,10 +58,10 @@ loop-again c =
     ⊎-elim
     (λ w. rw (w .7, w .8, w .9) (
       omega arith,
-      layer-hit x (s .pre .2) (omega arith) (w .0 .taken) (w .4 .ensures),
+      layer-hit x (s .pre .1) (omega arith) (w .0 .taken) (w .4 .ensures),
       still-marked (w .4 .ensures) (omega arith) (omega arith) (w .2 .ensures),
     ))
-    (λ w. rw (w .1, w .2, w .3) (omega arith, layer-pass x (s .pre .2) (omega arith) (w .0 .left), l .loop .inv .2))
+    (λ w. rw (w .1, w .2, w .3) (omega arith, layer-pass x (s .pre .1) (omega arith) (w .0 .left), l .loop .inv .2))
     (c .if2 .came)
 
 same-length : tie.Need-same-length Inv-loop μ-loop

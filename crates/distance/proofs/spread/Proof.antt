@@ -9,15 +9,15 @@ use Rattle.distance.proofs.spread.Statement.{statement}
 use Rattle.distance.proofs.spread.Tie as tie
 
 abbrev Inv-loop : tie.InvT-loop
-Inv-loop scheme c marks network m mark from distances₀ k₀ distances k = (k ≤ c .members) × Spread (graphOf scheme network) (Of m k) mark distances₀ distances
+Inv-loop scheme c network m mark from distances₀ k₀ distances k = (k ≤ c .members) × Spread (graphOf scheme network) (Of m k) mark distances₀ distances
 
 abbrev μ-loop : tie.MeasureT-loop
-μ-loop scheme c marks network m mark from distances₀ k₀ distances k = c .members - k
+μ-loop scheme c network m mark from distances₀ k₀ distances k = c .members - k
 
 loop-holds : tie.Need-loop-holds Inv-loop μ-loop
 loop-holds c =
     let p = c .before .before .before .pre in
-    (p .5 .inside, spread-none (p .4) (λ j k t. p .5 .below k (t .1)))
+    (p .4 .inside, spread-none (p .3) (λ j k t. p .4 .below k (t .1)))
 
 mul-if2 : tie.Need-mul-if2 Inv-loop μ-loop
 mul-if2 c = omega arith
@@ -28,7 +28,7 @@ slice-read-if2 c = omega (arith, ready-range (c .before .before .before .before 
 friends-requires : tie.Need-friends-requires Inv-loop μ-loop
 friends-requires c κs =
     let p = c .before .before .before .before .before .before .before .before .pre in
-    (p .0, p .1, omega arith, p .2)
+    (p .0, omega arith, p .1)
 
 mul-distances : tie.Need-mul-distances Inv-loop μ-loop
 mul-distances c = omega arith
@@ -51,7 +51,7 @@ loop-again c =
     let e = s .pre .0 .counts .members in (
       omega arith,
       ⊎-elim
-          (λ w. rw (w .3) (spread-mark x (omega arith) (omega arith) (omega arith) (s .pre .3) (w .0 .taken) (w .1 .ensures) (w .2 .taken)))
+          (λ w. rw (w .3) (spread-mark x (omega arith) (omega arith) (omega arith) (s .pre .2) (w .0 .taken) (w .1 .ensures) (w .2 .taken)))
           (⊎-elim
           (λ w. rw (w .3) (spread-stranger x (w .1 .ensures) (w .2 .left)))
           (λ w. rw (w .1) (spread-pass x (omega (arith, w .0 .left)))))

@@ -9,10 +9,10 @@ use Rattle.finding.proofs.begin.Statement.{statement}
 use Rattle.finding.proofs.begin.Tie as tie
 
 abbrev Inv-loop : tie.InvT-loop
-Inv-loop scheme c marks network v state₀ k₀ state k = (k ≤ c .members) × Beginning (worldOf scheme network) v k state
+Inv-loop scheme c network v state₀ k₀ state k = (k ≤ c .members) × Beginning (worldOf scheme network) v k state
 
 abbrev μ-loop : tie.MeasureT-loop
-μ-loop scheme c marks network v state₀ k₀ state k = c .members - k
+μ-loop scheme c network v state₀ k₀ state k = c .members - k
 
 loop-holds : tie.Need-loop-holds Inv-loop μ-loop
 loop-holds c = (omega arith, let p = c .before .before .before .pre in begin-none (p .3) (p .4))

@@ -15,7 +15,7 @@ use Rattle.finding.proofs.walk.Statement.{statement}
 use Rattle.finding.proofs.walk.Tie as tie
 
 abbrev Inv-loop : tie.InvT-loop
-Inv-loop scheme c marks network distances rows v u state₀ low₀ first m k₀ state low k =
+Inv-loop scheme c network distances rows v u state₀ low₀ first m k₀ state low k =
     (k ≤ c .members)
     × (low ≤ c .members)
     × NobodyWaits low state
@@ -23,10 +23,10 @@ Inv-loop scheme c marks network distances rows v u state₀ low₀ first m k₀ 
     × Expanding (worldOf scheme network) v u m state₀ k state
 
 abbrev μ-loop : tie.MeasureT-loop
-μ-loop scheme c marks network distances rows v u state₀ low₀ first m k₀ state low k = c .members - k
+μ-loop scheme c network distances rows v u state₀ low₀ first m k₀ state low k = c .members - k
 
 abbrev Inv-walk : tie.InvT-walk
-Inv-walk scheme c marks network distances rows v u state₀ low₀ first₀ state low first =
+Inv-walk scheme c network distances rows v u state₀ low₀ first₀ state low first =
     (low ≤ c .members)
     × (first ≤ c .members)
     × NobodyWaits low state
@@ -34,7 +34,7 @@ Inv-walk scheme c marks network distances rows v u state₀ low₀ first₀ stat
     × Walking (worldOf scheme network) v u state₀ state
 
 abbrev μ-walk : tie.MeasureT-walk
-μ-walk scheme c marks network distances rows v u state₀ low₀ first₀ state low first = undone (worldOf scheme network .graph .members) state
+μ-walk scheme c network distances rows v u state₀ low₀ first₀ state low first = undone (worldOf scheme network .graph .members) state
 
 -- the member to expand
 chosen : (c : tie.Else1 Inv-loop μ-loop Inv-walk μ-walk)
@@ -150,7 +150,7 @@ loop-again c =
     (f .within, omega arith, nobody-below (l .4) (omega arith) (l .2) (h .0) (h .1), f .stops, expand-to x (f .passed))
 
 same-length : tie.Need-same-length Inv-loop μ-loop Inv-walk μ-walk
-same-length c = omega (arith, c .before .before .before .before .before .before .before .before .before .before .pre .4 .long, c .before .before .before .before .walk .inv .4 .walk .long)
+same-length c = omega (arith, c .before .before .before .before .before .before .before .before .before .before .pre .3 .long, c .before .before .before .before .walk .inv .4 .walk .long)
 
 returns : tie.Need-returns Inv-loop μ-loop Inv-walk μ-walk
 returns c =
@@ -161,7 +161,7 @@ returns c =
     }
 
 same-length-2 : tie.Need-same-length-2 Inv-loop μ-loop Inv-walk μ-walk
-same-length-2 c = omega (arith, c .before .before .before .before .before .before .before .before .before .before .before .before .before .before .before .before .before .before .before .before .pre .4 .long, c .before .before .before .loop .inv .4 .long)
+same-length-2 c = omega (arith, c .before .before .before .before .before .before .before .before .before .before .before .before .before .before .before .before .before .before .before .before .pre .3 .long, c .before .before .before .loop .inv .4 .long)
 
 returns-2 : tie.Need-returns-2 Inv-loop μ-loop Inv-walk μ-walk
 returns-2 c =

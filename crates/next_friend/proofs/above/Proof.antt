@@ -11,10 +11,10 @@ use Rattle.next_friend.proofs.above.Statement.{statement}
 use Rattle.next_friend.proofs.above.Tie as tie
 
 abbrev Inv-loop : tie.InvT-loop
-Inv-loop scheme c marks network m seen from at₀ k₀ at k = (k ≤ c .members) × (at ≡ pairs k + m) × Passed (graphOf scheme network) m seen from k
+Inv-loop scheme c network m seen from at₀ k₀ at k = (k ≤ c .members) × (at ≡ pairs k + m) × Passed (graphOf scheme network) m seen from k
 
 abbrev μ-loop : tie.MeasureT-loop
-μ-loop scheme c marks network m seen from at₀ k₀ at k = c .members - k
+μ-loop scheme c network m seen from at₀ k₀ at k = c .members - k
 
 pairs-requires : tie.Need-pairs-requires Inv-loop μ-loop
 pairs-requires c κs = omega (arith, ready-range (c .before .before .before .pre .0))
@@ -43,7 +43,7 @@ says : (c : tie.After-marked Inv-loop μ-loop)
 says c =
     let s = c .before .before .before .before .before .before .before .before .before .before .before in
     let l = c .before .before .before .before .before .before .loop in
-    friends-byte (s .pre .0) (s .args .marks) (s .args .m) (l .k) _ (s .pre .1) (omega (arith, l .inv .2 .onward)) (c .before .before .before .before .if1 .taken) (l .inv .1) (c .marked .ensures) .0
+    friends-byte (s .pre .0) (s .args .m) (l .k) _ (omega (arith, l .inv .2 .onward)) (c .before .before .before .before .if1 .taken) (l .inv .1) (c .marked .ensures) .0
 
 returns : tie.Need-returns Inv-loop μ-loop
 returns c = pass-stop (c .before .before .before .before .before .before .before .loop .inv .2) (omega arith) (says (c .before)) (c .if3 .taken) (c .before .before .before .if2 .taken)

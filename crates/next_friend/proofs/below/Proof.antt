@@ -10,10 +10,10 @@ use Rattle.next_friend.proofs.below.Statement.{statement}
 use Rattle.next_friend.proofs.below.Tie as tie
 
 abbrev Inv-loop : tie.InvT-loop
-Inv-loop scheme marks network m seen from at k₀ k = (k ≤ m) × Passed (graphOf scheme network) m seen from k
+Inv-loop scheme c network m seen from at k₀ k = (k ≤ m) × Passed (graphOf scheme network) m seen from k
 
 abbrev μ-loop : tie.MeasureT-loop
-μ-loop scheme marks network m seen from at k₀ k = m - k
+μ-loop scheme c network m seen from at k₀ k = m - k
 
 pairs-requires : tie.Need-pairs-requires Inv-loop μ-loop
 pairs-requires c κs = omega (arith, ready-range (c .before .before .before .pre .0))
@@ -30,7 +30,7 @@ add-marked c = omega (arith, ready-range (c .before .before .before .before .bef
 shared-slice-read-marked : tie.Need-shared-slice-read-marked Inv-loop μ-loop
 shared-slice-read-marked c =
     let s = c .before .before .before .before .before .before .before .before .before in
-    omega (arith, pair-inside (s .pre .0) (c .before .before .before .before .loop .k) (s .args .m) (c .before .before .before .loop-test .taken) (s .pre .2))
+    omega (arith, pair-inside (s .pre .0) (c .before .before .before .before .loop .k) (s .args .m) (c .before .before .before .loop-test .taken) (s .pre .1))
 
 marked-requires : tie.Need-marked-requires Inv-loop μ-loop
 marked-requires c κs = search needs
@@ -40,7 +40,7 @@ says : (c : tie.After-marked Inv-loop μ-loop)
     → c .marked .result ≡ graphOf (c .before .before .before .before .before .before .before .before .before .before .args .scheme .now) (c .before .before .before .before .before .before .before .before .before .before .args .network .now) .friends (c .before .before .before .before .before .before .before .before .before .before .args .m) (c .before .before .before .before .before .loop .k)
 says c =
     let s = c .before .before .before .before .before .before .before .before .before .before in
-    friends-byte (s .pre .0) (s .args .marks) (c .before .before .before .before .before .loop .k) (s .args .m) _ (s .pre .1) (c .before .before .before .before .loop-test .taken) (s .pre .2) (omega (arith, c .before .before .before .before .before .before .pairs .ensures .0)) (c .marked .ensures) .1
+    friends-byte (s .pre .0) (c .before .before .before .before .before .loop .k) (s .args .m) _ (c .before .before .before .before .loop-test .taken) (s .pre .1) (omega (arith, c .before .before .before .before .before .before .pairs .ensures .0)) (c .marked .ensures) .1
 
 returns : tie.Need-returns Inv-loop μ-loop
 returns c = pass-stop (c .before .before .before .before .before .before .loop .inv .1) (omega arith) (says (c .before)) (c .if2 .taken) (c .before .before .before .if1 .taken)

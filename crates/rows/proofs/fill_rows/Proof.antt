@@ -12,10 +12,10 @@ use Rattle.rows.proofs.fill_rows.Statement.{statement}
 use Rattle.rows.proofs.fill_rows.Tie as tie
 
 abbrev Inv-loop : tie.InvT-loop
-Inv-loop scheme c marks network rows₀ m₀ rows m = (length rows ≡ 1024) × (m ≤ c .members) × ((k : ℕ) → k < m → FriendRow (graphOf scheme network) k (rowOf rows k))
+Inv-loop scheme c network rows₀ m₀ rows m = (length rows ≡ 1024) × (m ≤ c .members) × ((k : ℕ) → k < m → FriendRow (graphOf scheme network) k (rowOf rows k))
 
 abbrev μ-loop : tie.MeasureT-loop
-μ-loop scheme c marks network rows₀ m₀ rows m = c .members - m
+μ-loop scheme c network rows₀ m₀ rows m = c .members - m
 
 loop-holds : tie.Need-loop-holds Inv-loop μ-loop
 loop-holds c = (omega arith, omega arith, λ k h. absurd (omega arith))

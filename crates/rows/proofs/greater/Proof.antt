@@ -12,10 +12,10 @@ use Rattle.rows.proofs.greater.Statement.{statement}
 use Rattle.rows.proofs.greater.Tie as tie
 
 abbrev Inv-loop : tie.InvT-loop
-Inv-loop scheme marks network u from start below end bits₀ m₀ at₀ bits m at = (from + start ≤ m) × (m ≤ from + 64) × FirstBits (graphOf scheme network) u from (m - from) bits × (at ≡ pairs m + u)
+Inv-loop scheme c network u from start below end bits₀ m₀ at₀ bits m at = (from + start ≤ m) × (m ≤ from + 64) × FirstBits (graphOf scheme network) u from (m - from) bits × (at ≡ pairs m + u)
 
 abbrev μ-loop : tie.MeasureT-loop
-μ-loop scheme marks network u from start below end bits₀ m₀ at₀ bits m at = end - m
+μ-loop scheme c network u from start below end bits₀ m₀ at₀ bits m at = end - m
 
 add-least : tie.Need-add-least Inv-loop μ-loop
 add-least c = search needs
@@ -36,7 +36,7 @@ loop-holds : tie.Need-loop-holds Inv-loop μ-loop
 loop-holds c =
     let s = c .before .before .before .before in
     let e : s .args .from + s .args .start - s .args .from ≡ s .args .start = omega arith in
-    (omega arith, omega arith, rw e (s .pre .5), rw (c .pairs .ensures .0))
+    (omega arith, omega arith, rw e (s .pre .4), rw (c .pairs .ensures .0))
 
 shared-slice-read-if1 : tie.Need-shared-slice-read-if1 Inv-loop μ-loop
 shared-slice-read-if1 c =
@@ -57,7 +57,7 @@ shl-bits : tie.Need-shl-bits Inv-loop μ-loop
 shl-bits c = omega arith
 
 add-at-2 : tie.Need-add-at-2 Inv-loop μ-loop
-add-at-2 c = let i = c .before .before .before .loop in omega (arith, i .inv .3, pairs-small (i .m) (omega arith))
+add-at-2 c = let i = c .before .before .before .before .loop in omega (arith, i .inv .3, pairs-small (i .m) (omega arith))
 
 add-m-2 : tie.Need-add-m-2 Inv-loop μ-loop
 add-m-2 c = omega arith
@@ -67,10 +67,10 @@ loop-less c = omega arith
 
 loop-again : tie.Need-loop-again Inv-loop μ-loop
 loop-again c =
-    let s = c .before .before .before .before .before .before .before .before in
-    let i = c .before .before .before .loop in
+    let s = c .before .before .before .before .before .before .before .before .before in
+    let i = c .before .before .before .before .loop in
     let (f, p) =
-    first-above (s .pre .0) (s .pre .1) (s .args .u) (s .args .from) (i .m) (i .at) (i .bits) (c .if1 .bits) (omega arith) (omega arith) (omega arith) (omega arith) (i .inv .3) (i .inv .2)
+    first-above (s .pre .0) (s .args .u) (s .args .from) (i .m) (i .at) (i .bits) (c .if1 .bits) (omega arith) (omega arith) (omega arith) (omega arith) (i .inv .3) (i .inv .2)
     (⊎-elim (λ w. inl (w .0 .taken, w .1)) (λ w. inr (w .0 .left, w .1)) (c .if1 .came)) in
     (omega arith, omega arith, f, p)
 

@@ -13,10 +13,10 @@ use Rattle.rows.proofs.lesser.Statement.{statement}
 use Rattle.rows.proofs.lesser.Tie as tie
 
 abbrev Inv-loop : tie.InvT-loop
-Inv-loop scheme marks network u from end at bits₀ m₀ bits m = FirstBits (graphOf scheme network) u from m bits × (m ≤ end)
+Inv-loop scheme c network u from end at bits₀ m₀ bits m = FirstBits (graphOf scheme network) u from m bits × (m ≤ end)
 
 abbrev μ-loop : tie.MeasureT-loop
-μ-loop scheme marks network u from end at bits₀ m₀ bits m = end - m
+μ-loop scheme c network u from end at bits₀ m₀ bits m = end - m
 
 pairs-requires : tie.Need-pairs-requires Inv-loop μ-loop
 pairs-requires c κs = omega (arith, ready-range (c .before .before .pre .0))
@@ -34,7 +34,7 @@ shared-slice-read-if1 : tie.Need-shared-slice-read-if1 Inv-loop μ-loop
 shared-slice-read-if1 c =
     let s = c .before .before .before .before .before .before in
     let k = s .args .from + c .before .before .loop .m in
-    omega (arith, c .before .before .before .pairs .ensures .0, pair-inside (s .pre .0) k (s .args .u) (omega arith) (s .pre .2))
+    omega (arith, c .before .before .before .pairs .ensures .0, pair-inside (s .pre .0) k (s .args .u) (omega arith) (s .pre .1))
 
 cast-if1 : tie.Need-cast-if1 Inv-loop μ-loop
 cast-if1 c = search needs
@@ -53,16 +53,16 @@ loop-less c = omega arith
 
 loop-again : tie.Need-loop-again Inv-loop μ-loop
 loop-again c =
-    let s = c .before .before .before .before .before .before .before in
-    let i = c .before .before .before .loop in
+    let s = c .before .before .before .before .before .before .before .before in
+    let i = c .before .before .before .before .loop in
     let from = s .args .from in
     let u = s .args .u in
     let net = s .args .network .now in
-    let pairs = c .before .before .before .before .pairs in
-    let (x, e, l) = pair-held (s .pre .0) (from + i .m) u (omega arith) (s .pre .2) in
+    let pairs = c .before .before .before .before .before .pairs in
+    let (x, e, l) = pair-held (s .pre .0) (from + i .m) u (omega arith) (s .pre .1) in
     let at : pairs .result + from + i .m ≡ pairPlace (from + i .m) u = omega (arith, pairs .ensures .0) in
     let same : getD net (pairs .result + from + i .m) 0 ≡ getD net (pairPlace (from + i .m) u) 0 = ap (λ (p : ℕ). getD net p 0) at in (
-      first-more (s .pre .0) (s .pre .1) u from (i .m) (getD net (pairs .result + from + i .m) 0) (i .bits) (c .if1 .bits) (omega arith) (s .pre .2) (omega arith)
+      first-more (s .pre .0) u from (i .m) (getD net (pairs .result + from + i .m) 0) (i .bits) (c .if1 .bits) (omega arith) (s .pre .1) (omega arith)
           (λ h. omega arith)
           (same ∙ e)
           (rw same l)

@@ -8,7 +8,7 @@ use Rattle.rows.proofs.word.Statement.{statement}
 use Rattle.rows.proofs.word.Tie as tie
 
 greater-requires : tie.Need-greater-requires
-greater-requires c κs = let s = c .before .before .before in (s .pre .0, s .pre .1, omega arith, s .pre .3, omega arith, first-none _ _ _)
+greater-requires c κs = let s = c .before .before .before in (s .pre .0, omega arith, s .pre .2, omega arith, first-none _ _ _)
 
 returns : tie.Need-returns
 returns c = search needs
@@ -30,9 +30,8 @@ greater-requires-2 c κs =
     let s = c .before .before .before .before .before .before in
     let e : s .args .u ≡ s .args .from + c .before .before .least .result = omega arith in (
       s .pre .0,
-      s .pre .1,
       omega arith,
-      s .pre .3,
+      s .pre .2,
       omega arith,
       first-skip (c .before .lesser .ensures) (friends-own (s .args .scheme .now) (s .args .network .now) _ _ e),
     )

@@ -4,7 +4,7 @@ use native.Mathlib.Omega.{arith}
 use Rattle.model.specs.Bytes.{RecordAt}
 use Rattle.model.specs.SchemeBytes.{CountsFit, Records, BytesFit}
 use Rattle.model.proofs.Deciding.{refused, passed}
-use Rattle.tables.specs.Read.{InRange}
+use Rattle.tables.specs.Read.{InRange, ReadAs}
 use Rattle.tables.proofs.Ranges.{counts-fit, counts-in}
 use borrow.Author.Needs.{needs}
 use Rattle.scheme.proofs.check.Statement.{statement}
@@ -64,8 +64,12 @@ returns-4 c = (
   omega arith,
 )
 
+-- the scheme can be read
+readable : (c : tie.Else4) → ReadAs (c .before .before .before .before .before .before .before .before .before .before .args .scheme .now) (c .before .before .before .before .before .before .counts .result)
+readable c = record { counts = c .before .before .before .before .before .before .counts .ensures; range = range (c .before .before .before .before); records = whole (c .before .before); bytes = fits c }
+
 apart-requires : tie.Need-apart-requires
-apart-requires c κs = record { counts = c .before .before .before .before .before .before .counts .ensures; range = range (c .before .before .before .before); records = whole (c .before .before); bytes = fits c }
+apart-requires c κs = readable c
 
 returns-5 : tie.Need-returns-5
 returns-5 c = (
@@ -73,11 +77,16 @@ returns-5 c = (
   omega arith,
 )
 
+marked-requires : tie.Need-marked-requires
+marked-requires c κs = readable (c .before .before)
+
 returns-6 : tie.Need-returns-6
-returns-6 c = (
-  inr (head (c .before .before .before .before .before .before .before .before .before), inr (fit (c .before .before .before .before .before .before), inr (whole (c .before .before .before .before), inr (fits (c .before .before), inr (passed (c .before .apart .result) (c .if5 .left) (c .before .apart .ensures), refl))))),
-  c .before .before .before .before .before .before .before .before .counts .ensures,
-)
+returns-6 c =
+    let e = c .before in (
+      inr (head (e .before .before .before .before .before .before .before .before .before), inr (fit (e .before .before .before .before .before .before), inr (whole (e .before .before .before .before), inr (fits (e .before .before), inr (passed (e .before .apart .result) (e .if5 .left) (e .before .apart .ensures), refl))))),
+      c .marked .ensures .0,
+      c .marked .ensures .1,
+    )
 
 pub check-spec : {M : Type 1} → statement M
 check-spec =
@@ -94,4 +103,5 @@ check-spec =
     returns-4
     apart-requires
     returns-5
+    marked-requires
     returns-6)

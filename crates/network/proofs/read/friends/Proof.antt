@@ -24,8 +24,8 @@ returns-2 c =
     let q = c .before .state in
     let e : q .result % 16 ≡ q .result = omega (arith, ready-range (s .pre .0)) in
     c .marked .ensures
-    ∙ ap (bit (s .args .marks)) e
-    ∙ friends-marked (s .pre .0) (s .args .marks) (s .args .u) (s .args .v) (q .result) (s .pre .1) (s .pre .2) (s .pre .3) (c .before .before .if1 .left) (q .ensures .0) (q .ensures .1)
+    ∙ ap (bit (s .args .c .marks)) e
+    ∙ friends-marked (s .pre .0) (s .args .u) (s .args .v) (q .result) (s .pre .1) (s .pre .2) (c .before .before .if1 .left) (q .ensures .0) (q .ensures .1)
 
 pub friends-spec : {M : Type 1} → statement M
 friends-spec = tie.close (tie.spec returns state-requires marked-requires returns-2)
