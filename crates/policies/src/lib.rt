@@ -8,7 +8,7 @@ ghost use lib.ListN.{length};
 ghost use Rattle.model.specs.Decides.{Decides};
 ghost use Rattle.model.specs.Policies.{Policy, Admits, state as stateOf};
 ghost use Rattle.model.specs.SchemeBytes.{schemeOf, sideOf};
-ghost use Rattle.tables.specs.Read.{ReadAs, MarksOf};
+ghost use Rattle.tables.specs.Read.{ReadAs};
 ghost use Rattle.tables.specs.Rules.{policyOfRule};
 ghost use Rattle.network.specs.Ready.{Ready, graphOf};
 ghost use Rattle.sets.specs.Rows.{FriendRow};
@@ -79,25 +79,24 @@ fn some_of(scheme: &[u8], c: Counts, count: usize, wanted: u8) -> bool
 pub fn prepare(
     scheme: &[u8],
     c: Counts,
-    marks: u16,
     network: &[u8],
     v: usize,
     distances: &mut [u16],
     rows: &mut [u64],
 )
-    requires { ⌜ Ready (now scheme) c (now network) × MarksOf (now scheme) (c .states) marks × (v < c .members) × (length (now distances) ≡ 256) × (length (now rows) ≡ 1024) ⌝ }
+    requires { ⌜ Ready (now scheme) c (now network) × (v < c .members) × (length (now distances) ≡ 256) × (length (now rows) ≡ 1024) ⌝ }
     ensures { λ r. ⌜ Prepared (now (scheme .entry)) (now (network .entry)) v (now (distances .exit)) (now (rows .exit)) ⌝ }
 {
     let limit = farthest(scheme, c);
     if limit != 0 {
-        distance::fill(scheme, c, marks, network, v, limit, distances);
+        distance::fill(scheme, c, network, v, limit, distances);
     }
     if some_of(scheme, c, c.policies, 5) {
-        rows::fill_rows(scheme, c, marks, network, rows);
+        rows::fill_rows(scheme, c, network, rows);
         return;
     }
     if some_of(scheme, c, c.policies, 4) {
-        let row = rows::friend_row(scheme, c, marks, network, v);
+        let row = rows::friend_row(scheme, c, network, v);
         sets::put_row(rows, v, row);
     }
 }
@@ -125,8 +124,7 @@ fn common(
     if sets::has(of_v, u) {
         return 255;
     }
-    let marks = tables::marks(scheme, c);
-    let of_u = rows::friend_row(scheme, c, marks, network, u);
+    let of_u = rows::friend_row(scheme, c, network, u);
     sets::shared(of_u, of_v) as usize
 }
 

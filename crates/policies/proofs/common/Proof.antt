@@ -6,7 +6,7 @@ use native.Mathlib.Omega.{arith}
 use denote.Ref.{now}
 use Rattle.model.proofs.Deciding.{decided, refused, is-true}
 use Rattle.network.specs.Ready.{graphOf}
-use Rattle.network.proofs.Reading.{ready-read, ready-range}
+use Rattle.network.proofs.Reading.{ready-range}
 use Rattle.policies.proofs.Undirected.{network-undirected}
 use Rattle.policies.proofs.ByKind.{shares-all, shares-counted}
 use borrow.Author.Needs.{needs}
@@ -46,9 +46,6 @@ returns-3 c = λ a.
     let s = c .before .before .before .before .before .before .before .before in
     shares-all _ _ _ (inr (friends (c .before) a ∙ c .if3 .taken))
 
-marks-requires : tie.Need-marks-requires
-marks-requires c κs = ready-read (c .before .before .before .before .before .before .before .before .pre .0)
-
 friend-row-requires : tie.Need-friend-row-requires
 friend-row-requires c κs = search needs
 
@@ -60,12 +57,12 @@ cast-result c = search needs
 
 returns-4 : tie.Need-returns-4
 returns-4 c = λ a.
-    let s = c .before .before .before .before .before .before .before .before .before .before .before in
+    let s = c .before .before .before .before .before .before .before .before .before .before in
     let b = now (s .args .scheme) in
     let net = now (s .args .network) in
-    let has = c .before .before .before .before in
+    let has = c .before .before .before in
     let few : graphOf b net .members ≤ 256 = omega (arith, ready-range (s .pre .0), s .pre .0 .counts) in
-    shares-counted (graphOf b net) (s .args .u) (s .args .v) (c .before .before .before .before .before .before .if2 .left) (c .shared .result) (friends has a ∙ c .before .before .before .if3 .left)
+    shares-counted (graphOf b net) (s .args .u) (s .args .v) (c .before .before .before .before .before .if2 .left) (c .shared .result) (friends has a ∙ c .before .before .if3 .left)
     (c .shared .ensures .shares (graphOf b net) (s .args .u) (s .args .v) few (c .before .friend-row .ensures) (rw (has .before .row .ensures) (s .pre .4 a)))
 
 pub common-spec : {M : Type 1} → statement M
@@ -77,7 +74,6 @@ common-spec =
     row-requires
     has-requires
     returns-3
-    marks-requires
     friend-row-requires
     shared-requires
     cast-result

@@ -30,7 +30,7 @@ near c =
     let e = s .pre .0 .counts .policies in
     ⊎-elim
     (λ w. (rw (w .5) (w .2 .ensures .0), near-filled far e net (s .args .v) (c .if1 .distances) (rw (w .5) (w .2 .ensures .1))))
-    (λ w. (rw (w .1) (s .pre .3), near-unread far e net (s .args .v) (c .if1 .distances) (w .0 .left)))
+    (λ w. (rw (w .1) (s .pre .2), near-unread far e net (s .args .v) (c .if1 .distances) (w .0 .left)))
     (c .if1 .came)
 
 some-of-requires : tie.Need-some-of-requires
@@ -40,7 +40,7 @@ fill-rows-requires : tie.Need-fill-rows-requires
 fill-rows-requires c κs = search needs
 
 same-length : tie.Need-same-length
-same-length c = near (c .before .before .before .before .before .before) .0 ∙ sym (c .before .before .before .before .before .before .before .before .before .before .before .before .pre .3)
+same-length c = near (c .before .before .before .before .before .before) .0 ∙ sym (c .before .before .before .before .before .before .before .before .before .before .before .before .pre .2)
 
 same-length-2 : tie.Need-same-length-2
 same-length-2 c = search needs
@@ -59,10 +59,10 @@ friend-row-requires : tie.Need-friend-row-requires
 friend-row-requires c κs = search needs
 
 put-row-requires : tie.Need-put-row-requires
-put-row-requires c κs = let s = c .before .before .before .before .before .before .before .before .before .before .before .before in (s .pre .4, omega (arith, ready-range (s .pre .0)))
+put-row-requires c κs = let s = c .before .before .before .before .before .before .before .before .before .before .before .before in (s .pre .3, omega (arith, ready-range (s .pre .0)))
 
 same-length-3 : tie.Need-same-length-3
-same-length-3 c = near (c .before .before .before .before .before .before .before .before .before) .0 ∙ sym (c .before .before .before .before .before .before .before .before .before .before .before .before .before .before .before .pre .3)
+same-length-3 c = near (c .before .before .before .before .before .before .before .before .before) .0 ∙ sym (c .before .before .before .before .before .before .before .before .before .before .before .before .before .before .before .pre .2)
 
 same-length-4 : tie.Need-same-length-4
 same-length-4 c = search needs
@@ -80,14 +80,14 @@ returns-2 c =
     let put = c .before .before .put-row .ensures in
     record {
       distances-long = l;
-      rows-long = put .long ∙ s .pre .4;
+      rows-long = put .long ∙ s .pre .3;
       near = n;
       own-row = λ some. rw (put .here) (c .before .before .before .before .friend-row .ensures);
       all-rows = λ some. absurd (no-clique (c .before .before .before .before .before .before .before) some);
     }
 
 same-length-5 : tie.Need-same-length-5
-same-length-5 c = near (c .before .before .before .before) .0 ∙ sym (c .before .before .before .before .before .before .before .before .before .before .pre .3)
+same-length-5 c = near (c .before .before .before .before) .0 ∙ sym (c .before .before .before .before .before .before .before .before .before .before .pre .2)
 
 returns-3 : tie.Need-returns-3
 returns-3 c =
@@ -95,7 +95,7 @@ returns-3 c =
     let (l, n) = near (c .before .before .before .before) in
     record {
       distances-long = l;
-      rows-long = s .pre .4;
+      rows-long = s .pre .3;
       near = n;
       own-row = λ some. absurd (said-no (c .if3 .left) (c .before .some-of2 .ensures) (some-more _ _ _ _ (omega (arith, s .pre .0 .counts .policies)) some));
       all-rows = λ some. absurd (no-clique (c .before .before) some);
