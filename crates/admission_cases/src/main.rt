@@ -4,7 +4,6 @@
 ghost use mathlib.Core.Path.{_≡_};
 ghost use Prim.Native.Nat.{_<_};
 ghost use lib.ListN.{length};
-ghost use Rattle.tables.specs.Read.{MarksOf};
 ghost use Rattle.network.specs.Ready.{Ready};
 use cases::Number;
 use cases::Part;
@@ -31,17 +30,16 @@ fn print_admitted(
     number: u64,
     scheme: &[u8],
     c: Counts,
-    marks: u16,
     network: &[u8],
     v: usize,
     u: usize,
     distances: &mut [u16],
     rows: &mut [u64],
 )
-    requires { ⌜ Ready (now scheme) c (now network) × MarksOf (now scheme) (c .states) marks × (v < c .members) × (u < c .members) × (length (now distances) ≡ 256) × (length (now rows) ≡ 1024) ⌝ }
+    requires { ⌜ Ready (now scheme) c (now network) × (v < c .members) × (u < c .members) × (length (now distances) ≡ 256) × (length (now rows) ≡ 1024) ⌝ }
 {
-    policies::prepare(scheme, c, marks, network, v, distances, rows);
-    let set = policies::admitted(scheme, c, network, distances, rows, u, v, c.policies);
+    prepared::prepare(scheme, c, network, v, distances, rows);
+    let set = policies::admitted(scheme, c, network, distances, rows, u, v, 0, c.policies);
     printing::number(number);
     printing::next(v as u64);
     printing::next(u as u64);
@@ -54,12 +52,11 @@ fn run_question(
     number: u64,
     scheme: &[u8],
     c: Counts,
-    marks: u16,
     network: &[u8],
     distances: &mut [u16],
     rows: &mut [u64],
 ) -> bool
-    requires { ⌜ Ready (now scheme) c (now network) × MarksOf (now scheme) (c .states) marks × (length (now distances) ≡ 256) × (length (now rows) ≡ 1024) ⌝ }
+    requires { ⌜ Ready (now scheme) c (now network) × (length (now distances) ≡ 256) × (length (now rows) ≡ 1024) ⌝ }
 {
     let Question::Of(v, u) = read_question() else {
         return false;
@@ -70,7 +67,7 @@ fn run_question(
     if u >= c.members {
         return false;
     }
-    print_admitted(number, scheme, c, marks, network, v, u, distances, rows);
+    print_admitted(number, scheme, c, network, v, u, distances, rows);
     true
 }
 
@@ -86,10 +83,9 @@ fn run_questions(
 ) -> bool
     requires { ⌜ Ready (now scheme) c (now network) × (length (now distances) ≡ 256) × (length (now rows) ≡ 1024) ⌝ }
 {
-    let marks = tables::marks(scheme, c);
     let mut done: usize = 0;
     while done < count {
-        if !run_question(number, scheme, c, marks, network, distances, rows) {
+        if !run_question(number, scheme, c, network, distances, rows) {
             return false;
         }
         done += 1;

@@ -245,3 +245,34 @@ friends-with rows common u v j f c x y g r two few a b d =
     let all : RowsOf g rows = record { each = r; few = few; undirected = two } in
     let i : Inside g common = λ m h. row-inside p m (in-both c m h .0) in
     largest-holds few two a b d p (r v b) c j (sym (p .bits v (omega arith)) ∙ f) (x .tells g all i .sound refl) (λ l h. never (y l .tells g all i .complete h) refl)
+
+-- a common friend x, a common friend y of the three, and one more of the four: a clique of five
+pub five : {g : Graph} {u v x y : ℕ} {rowU rowV rowX rowY common common' common'' : List ℕ} → g .members ≤ 256 → Undirected g
+    → u < g .members
+    → v < g .members
+    → Friends g u v
+    → FriendRow g u rowU
+    → FriendRow g v rowV
+    → Meet rowU rowV common
+    → Has common x
+    → FriendRow g x rowX
+    → Meet rowX common common'
+    → Has common' y
+    → FriendRow g y rowY
+    → Meet rowY common' common''
+    → NotEmpty common'' true
+    → (u ≡ v → ⊥)
+    → LargestClique g u v 5
+five {g} {u} {v} {x} {y} {common = common} {common' = common'} {common'' = common''} few two a b f p q c hx px cx hy py cy e d =
+    let inside : Inside g common = λ m h. row-inside p m (in-both c m h .0) in
+    let inside' : Inside g common' = λ m h. inside m (in-both cx m h .1) in
+    let (z, hz) = e .tells .0 refl in
+    let one : Holds g common'' 0 1 = record {
+      list = z ∷ [];
+      long = refl;
+      friends = (inside' z (in-both cy z hz .1), tt, tt);
+      inside = λ m k. ⊎-elim (λ i. (rw i hz, omega arith)) (λ i. absurd i) k;
+    } in
+    let two' : Holds g common' 0 2 = holds-with few two py cy (inside' y hy) hy one in
+    let three : Holds g common 0 3 = holds-with few two px cx (inside x hx) hx two' in
+    largest-holds few two a b d p q c 3 f three (λ l h. omega arith)

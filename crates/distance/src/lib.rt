@@ -1,12 +1,11 @@
 // Distances over friendships (document 01, "Policies", kind 3).
 use tables::Counts;
 ghost use mathlib.Core.Path.{_≡_};
-ghost use Prim.Native.Nat.{ℕ, _+_, _<_, _≤_};
+ghost use Prim.Native.Nat.{_<_, _≤_};
 ghost use lib.ListN.{length};
 ghost use Rattle.model.specs.Decides.{Decides};
-ghost use Rattle.model.specs.Graph.{Graph, Within};
 ghost use Rattle.network.specs.Ready.{Ready, graphOf};
-ghost use Rattle.distance.specs.Distances.{Distances};
+ghost use Rattle.distance.specs.Distances.{Distances, Marks};
 ghost use Rattle.distance.specs.Marks.{Cleared, Marked, Spread, Layered};
 
 // Takes all marks away.
@@ -109,14 +108,12 @@ pub fn fill(
     }
 }
 
-// Whether at most k friendships join a member with the one whose distances these are.
-pub fn within(distances: &[u16], m: usize, k: usize) -> bool
-    requires { ⌜ m < length (now distances) ⌝ }
-    ensures { λ r. ⌜ ((g : Graph) (v limit : ℕ) → Distances g v limit (now (distances .entry)) → m < g .members → k ≤ limit → Decides r (Within g k m v)) ⌝ }
+// Whether a mark says at most k friendships.
+pub fn within(mark: usize, k: usize) -> bool
+    ensures { λ r. ⌜ Decides r (Marks mark k) ⌝ }
 {
-    let d = distances[m] as usize;
-    if d == 0 {
+    if mark == 0 {
         return false;
     }
-    d - 1 <= k
+    mark - 1 <= k
 }

@@ -6,69 +6,64 @@ use mathlib.Core.List.{List}
 use mathlib.Core.Logic.{_↔_}
 use native.Mathlib.Omega.{arith}
 use native.Mathlib.Decide.{ℕ-discrete}
-use Rattle.model.specs.Bytes.{bit, NoBitFrom}
+use Rattle.model.specs.Bytes.{bit}
 use Rattle.model.specs.Decides.{Decides}
+use Rattle.model.specs.Graph.{Within}
 use Rattle.model.specs.Policies.{Admits}
 use Rattle.model.specs.SchemeBytes.{schemeOf}
 use Rattle.model.proofs.Sets.{Added, none-in-zero}
 use Rattle.model.proofs.Deciding.{Says, says, is-so}
-use Rattle.tables.specs.declared.Counts.{Counts}
 use Rattle.tables.specs.declared.Rule.{Rule}
-use Rattle.tables.specs.declared.Rule.the-variants.{Within, Known, Clique}
-use Rattle.network.specs.Ready.{Ready, graphOf}
-use Rattle.network.proofs.Reading.{ready-range}
-use Rattle.sets.specs.Rows.{AllRows}
+use Rattle.tables.specs.declared.Rule.the-variants.{Within as WithinRule, Known, Clique}
+use Rattle.network.specs.Ready.{graphOf}
 use Rattle.clique.specs.Cliques.{LargestClique}
-use Rattle.clique.specs.Mutual.{RowsOf}
-use Rattle.policies.proofs.Undirected.{network-undirected}
-use Rattle.distance.specs.Distances.{Distances}
-use Rattle.policies.specs.Admission.{Admitted, NextRule}
-use Rattle.policies.specs.Reading.{kindOf, Shares, CliqueSize}
+use Rattle.distance.specs.Distances.{Marks}
+use Rattle.known.specs.Acquainted.{Acquainted}
+use Rattle.relation.specs.declared.Relation.{Relation}
+use Rattle.relation.proofs.Relating.{related-less}
+use Rattle.policies.specs.Admission.{Alone, Reads, Admitted, NextRule}
 
 -- a policy's bit
-pub bit-says : (b net : List ℕ) (u v set count : ℕ) → Admitted b net u v set count → (p : ℕ) → p < count
+pub bit-says : {b net : List ℕ} {u v from count set : ℕ} → Admitted b net u v from count set → (p : ℕ) → from ≤ p → p < count
     → Says (bit set p) (Admits (graphOf b net) (schemeOf b .policy p) u v)
-bit-says b net u v set count a p l =
-    let (to, from) = a p l in
-    record { yes-if = to; no-if = λ e h. false≢true (sym e ∙ from h) }
+bit-says a p f l =
+    let (to, back) = a .admits p f l in
+    record { yes-if = to; no-if = λ e h. false≢true (sym e ∙ back h) }
 
-module _ {b net distances : List ℕ} {u v set shared size : ℕ} {rule : Rule} (next : NextRule b net distances u v set shared size rule) (k : ℕ) where
-  -- the distances that a rule of kind within reads
-  pub near-of : rule ≡ Within k → (limit : ℕ) × (k ≤ limit) × Distances (graphOf b net) v limit distances
-  near-of e = next .near k (next .at .policy ∙ rw e)
+module _ {b net : List ℕ} {u v set : ℕ} {relation : Relation} {rule : Rule} (next : NextRule b net u v relation set rule) (k : ℕ) where
+  -- what a rule of kind within reads
+  pub near-of : rule ≡ WithinRule k → Within (graphOf b net) k u v ↔ Marks (relation .mark) k
+  near-of e = next .reads .near k (next .p, omega arith, omega arith, next .at .policy ∙ rw e)
 
   -- what a rule of kind known reads
-  pub shared-of : rule ≡ Known k → Shares (graphOf b net) u v shared
-  shared-of e = next .shares (rw (next .at .policy, e) refl)
+  pub acquainted-of : rule ≡ Known k → Acquainted (graphOf b net) u v (relation .acquaintance)
+  acquainted-of e = next .reads .acquainted (next .p, omega arith, omega arith, rw (next .at .policy, e) refl)
 
   -- the size that a rule of kind clique reads
-  pub size-of : rule ≡ Clique k → (u ≡ v → ⊥) → LargestClique (graphOf b net) u v size
-  size-of e = next .sized (rw (next .at .policy, e) refl)
+  pub size-of : rule ≡ Clique k → (u ≡ v → ⊥) → LargestClique (graphOf b net) u v (relation .clique)
+  size-of e = next .reads .sized (next .p, omega arith, omega arith, rw (next .at .policy, e) refl)
 
--- the size, of the prepared rows, is that of the largest clique
-pub sized-by : {b net rows : List ℕ} {c : Counts} {u v size : ℕ} → Ready b c net → AllRows (graphOf b net) rows → CliqueSize rows u v size
-    → u < c .members
-    → v < c .members
-    → (u ≡ v → ⊥)
-    → LargestClique (graphOf b net) u v size
-sized-by {b} {net} ready each s i j =
-    let counts = ready .counts in
-    let rows : RowsOf (graphOf b net) _ = record { each = each; few = omega (arith, ready-range ready); undirected = network-undirected b net } in
-    s .largest (graphOf b net) rows (omega arith) (omega arith)
+-- what one policy among them reads
+pub reads-one : (b net : List ℕ) (u v from count : ℕ) (relation : Relation) → Reads b net u v from count relation → (p : ℕ) → from ≤ p → p < count
+    → Reads b net u v p (p + 1) relation
+reads-one b net u v from count relation r p f l = related-less
+    (λ k (q, a, d, e). (q, omega arith, omega arith, e))
+    (λ (q, a, d, e). (q, omega arith, omega arith, e))
+    (λ (q, a, d, e). (q, omega arith, omega arith, e))
+    r
 
--- of the first count policies the set has those that admit, and it has no other bit
-pub record Admitting (b net : List ℕ) (u v set count : ℕ) : Type 0 where
-  pub admits : Admitted b net u v set count
-  pub none-above : NoBitFrom count set
+-- those below p, where p combines
+pub lower-all : {b net : List ℕ} {u v from set p : ℕ} → from ≡ 0 → Admitted b net u v from p set → Admitted b net u v 0 p set
+lower-all z a = record { admits = λ q f l. a .admits q (omega arith) l; none-above = a .none-above }
 
-pub admitting-none : (b net : List ℕ) (u v : ℕ) → Admitting b net u v 0 0
-admitting-none b net u v = record { admits = λ p l. absurd (omega arith); none-above = none-in-zero 0 }
+pub admitted-none : (b net : List ℕ) (u v from : ℕ) → Admitted b net u v from from 0
+admitted-none b net u v from = record { admits = λ p f l. absurd (omega arith); none-above = none-in-zero from }
 
-pub admitting-more : {b net : List ℕ} {u v set p set' : ℕ} {t : Bool} → Admitting b net u v set p → Added set p t set'
+pub admitted-more : {b net : List ℕ} {u v from set p set' : ℕ} {t : Bool} → Admitted b net u v from p set → Added set p t set'
     → Decides t (Admits (graphOf b net) (schemeOf b .policy p) u v)
-    → Admitting b net u v set' (p + 1)
-admitting-more {b} {net} {u} {v} {set} {p} {set'} {t} a d f = record { admits = λ q l. go q l (ℕ-discrete q p); none-above = d .none-above }
+    → Admitted b net u v from (p + 1) set'
+admitted-more {b} {net} {u} {v} {from} {set} {p} {set'} {t} a d h = record { admits = λ q f l. go q f l (ℕ-discrete q p); none-above = d .none-above }
   where
-    go : (q : ℕ) → q < p + 1 → Dec (q ≡ p) → (bit set' q ≡ true) ↔ Admits (graphOf b net) (schemeOf b .policy q) u v
-    go q l (yes e) = let s = says f in rw (e, d .here) (s .yes-if, is-so s)
-    go q l (no e) = rw (d .kept q (omega arith)) (a .admits q (omega arith))
+    go : (q : ℕ) → from ≤ q → q < p + 1 → Dec (q ≡ p) → (bit set' q ≡ true) ↔ Admits (graphOf b net) (schemeOf b .policy q) u v
+    go q f l (yes e) = let s = says h in rw (e, d .here) (s .yes-if, is-so s)
+    go q f l (no e) = rw (d .kept q (omega arith)) (a .admits q f (omega arith))

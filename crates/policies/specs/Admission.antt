@@ -1,42 +1,35 @@
 -- Whom policies admit, as a set of policy numbers.
-use Prim.Native.Nat.{ℕ, _≤_, _<_}
+use Prim.Native.Nat.{ℕ, _+_, _≤_, _<_}
 use mathlib.Core.Path.{_≡_}
 use mathlib.Core.Bool.{true}
 use mathlib.Core.List.{List}
 use mathlib.Core.Logic.{_↔_}
-use lib.ListN.{length}
-use Rattle.model.specs.Bytes.{bit}
-use Rattle.model.specs.Policies.{Admits, within}
-use Rattle.model.specs.SchemeBytes.{P, schemeOf}
-use Rattle.tables.specs.Rules.{RuleAt}
+use Rattle.model.specs.Bytes.{bit, NoBitFrom}
+use Rattle.model.specs.Policies.{Admits}
+use Rattle.model.specs.SchemeBytes.{schemeOf}
+use Rattle.tables.specs.Rules.{kindOf, RuleAt}
 use Rattle.tables.specs.declared.Rule.{Rule}
 use Rattle.network.specs.Ready.{graphOf}
-use Rattle.sets.specs.Rows.{FriendRow}
-use Rattle.sets.specs.Rows.{rowOf, AllRows}
-use Rattle.clique.specs.Cliques.{LargestClique}
-use Rattle.distance.specs.Distances.{Distances}
-use Rattle.policies.specs.Reading.{kindOf, SomeOfKind, Shares}
+use Rattle.prepared.specs.Reading.{SomeOfKind}
+use Rattle.relation.specs.Related.{Related, SomeWithin}
+use Rattle.relation.specs.declared.Relation.{Relation}
 
--- what depends on accessor v alone, as far as a policy of the scheme reads it: its distances for within, its friend row for
--- known, the rows of all members for clique
-pub record Prepared (b net : List ℕ) (v : ℕ) (distances rows : List ℕ) : Type 0 where
-  pub distances-long : length distances ≡ 256
-  pub rows-long : length rows ≡ 1024
-  pub near : (p k : ℕ) → p < P b → schemeOf b .policy p ≡ within k → (limit : ℕ) × (k ≤ limit) × Distances (graphOf b net) v limit distances
-  pub own-row : SomeOfKind 4 b (P b) → FriendRow (graphOf b net) v (rowOf rows v)
-  pub all-rows : SomeOfKind 5 b (P b) → AllRows (graphOf b net) rows
+-- none of the policies from a number on, below the count, combines others, unless all of lower number are among them
+abbrev pub Alone : List ℕ → ℕ → ℕ → Type 0
+Alone b from count = (p : ℕ) → from ≤ p → p < count → 7 ≤ kindOf (schemeOf b .policy p) → from ≡ 0
 
--- bit p of the set: policy p, one of the first count, admits accessor v to what owner u has
-abbrev pub Admitted : List ℕ → List ℕ → ℕ → ℕ → ℕ → ℕ → Type 0
-Admitted b net u v set count =
-    (p : ℕ) → p < count → (bit set p ≡ true) ↔ Admits (graphOf b net) (schemeOf b .policy p) u v
+-- the relation is what the policies from a number on, below the count, read
+abbrev pub Reads : List ℕ → List ℕ → ℕ → ℕ → ℕ → ℕ → Relation → Type 0
+Reads b net u v from count relation = Related (graphOf b net) u v (SomeWithin b from count) (SomeOfKind 4 b from count) (SomeOfKind 5 b from count) relation
 
--- the rule is that of policy p; the distances, the set of those below it that admit, what u and v share and their clique's size
--- are what its kind reads
-pub record NextRule (b net distances : List ℕ) (u v set shared size : ℕ) (rule : Rule) : Type 0 where
+-- of the policies from a number on, below the count, the set has those that admit accessor v to what owner u has; it has no bit from there on
+pub record Admitted (b net : List ℕ) (u v from count set : ℕ) : Type 0 where
+  pub admits : (p : ℕ) → from ≤ p → p < count → (bit set p ≡ true) ↔ Admits (graphOf b net) (schemeOf b .policy p) u v
+  pub none-above : NoBitFrom count set
+
+-- the rule is that of policy p; the relation, and for a combination the set of those below it that admit, are what it reads
+pub record NextRule (b net : List ℕ) (u v : ℕ) (relation : Relation) (set : ℕ) (rule : Rule) : Type 0 where
   pub p : ℕ
   pub at : RuleAt b p rule
-  pub near : (k : ℕ) → schemeOf b .policy p ≡ within k → (limit : ℕ) × (k ≤ limit) × Distances (graphOf b net) v limit distances
-  pub shares : kindOf (schemeOf b .policy p) ≡ 4 → Shares (graphOf b net) u v shared
-  pub sized : kindOf (schemeOf b .policy p) ≡ 5 → (u ≡ v → ⊥) → LargestClique (graphOf b net) u v size
-  pub lower : 7 ≤ kindOf (schemeOf b .policy p) → Admitted b net u v set p
+  pub reads : Reads b net u v p (p + 1) relation
+  pub lower : 7 ≤ kindOf (schemeOf b .policy p) → Admitted b net u v 0 p set

@@ -1,12 +1,12 @@
 // Sets of members as 256 bits in four words, and a table of one for each member.
 ghost use mathlib.Core.Path.{_≡_};
-ghost use mathlib.Core.Bool.{_&&_};
-ghost use Prim.Native.Nat.{_<_, _≤_};
+ghost use mathlib.Core.Bool.{false, _&&_};
+ghost use Prim.Native.Nat.{ℕ, _<_, _≤_};
 ghost use lib.ListN.{length};
 ghost use Rattle.model.specs.Bytes.{bit};
 ghost use Rattle.model.specs.Graph.{count};
 ghost use Rattle.sets.specs.Rows.{rowBit, rowOf};
-ghost use Rattle.sets.specs.Sets.{RowPut, Meet, NotEmpty, CommonBits};
+ghost use Rattle.sets.specs.Sets.{RowPut, Meet, Has, NotEmpty, CommonBits};
 
 // The members of both sets.
 pub fn meet(a: [u64; 4], b: [u64; 4]) -> [u64; 4]
@@ -21,6 +21,20 @@ pub fn has(set: [u64; 4], m: usize) -> bool
     ensures { λ r. ⌜ r ≡ rowBit set m ⌝ }
 {
     (set[m / 64] >> (m % 64)) & 1 == 1
+}
+
+// The first member of a set, or 256.
+pub fn first(set: [u64; 4]) -> usize
+    ensures { λ r. ⌜ (r ≤ 256) × (r < 256 → Has set r) × ((m : ℕ) → m < r → rowBit set m ≡ false) ⌝ }
+{
+    let mut m: usize = 0;
+    while m < 256 {
+        if has(set, m) {
+            return m;
+        }
+        m += 1;
+    }
+    m
 }
 
 // Whether a set has a member.

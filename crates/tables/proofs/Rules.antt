@@ -1,15 +1,16 @@
 -- What the bytes of a policy that fits are, by its kind.
-use Prim.Native.Nat.{ℕ, _+_, _*_, _≤_, _<_}
-use mathlib.Core.Path.{_≡_, _∙_}
+use Prim.Native.Nat.{ℕ, zero, suc, _+_, _*_, _≤_, _<_}
+use mathlib.Core.Path.{_≡_, refl, sym, ap, _∙_}
 use mathlib.Core.List.{List}
 use mathlib.Core.Logic.{inl, inr}
 use native.Mathlib.Nat.{add-zero}
 use native.Mathlib.Omega.{arith}
 use Rattle.model.specs.Bytes.{byte, NoBitFrom}
-use Rattle.model.specs.SchemeBytes.{S, at4, field, PolicyFits, schemeOf}
+use Rattle.model.specs.Policies.{Policy, within}
+use Rattle.model.specs.SchemeBytes.{S, at4, field, policyOf, PolicyFits, schemeOf}
 use Rattle.model.proofs.Decoding.{policy-at}
 use Rattle.tables.specs.Read.{ReadAs}
-use Rattle.tables.specs.Rules.{RuleOf, RuleAt}
+use Rattle.tables.specs.Rules.{kindOf, RuleOf, RuleAt}
 use Rattle.tables.specs.declared.Counts.{Counts}
 use Rattle.tables.specs.declared.Rule.{Rule}
 
@@ -74,3 +75,39 @@ rule-at b c p at rule g l e r =
       policy = policy-at b p (omega (arith, g .counts .policies)) fit ∙ same .policy (schemeOf b .policy) (kind .known);
       fits = same .fits (S b) p fit;
     }
+
+-- the first of the four bytes is the kind
+kind-of : (lower : ℕ → Policy) (kind k left right : ℕ) → kind ≤ 8 → kindOf (policyOf lower kind k left right) ≡ kind
+kind-of lower zero k left right h = refl
+kind-of lower (suc zero) k left right h = refl
+kind-of lower (suc (suc zero)) k left right h = refl
+kind-of lower (suc (suc (suc zero))) k left right h = refl
+kind-of lower (suc (suc (suc (suc zero)))) k left right h = refl
+kind-of lower (suc (suc (suc (suc (suc zero))))) k left right h = refl
+kind-of lower (suc (suc (suc (suc (suc (suc zero)))))) k left right h = refl
+kind-of lower (suc (suc (suc (suc (suc (suc (suc zero))))))) k left right h = refl
+kind-of lower (suc (suc (suc (suc (suc (suc (suc (suc zero)))))))) k left right h = refl
+kind-of lower (suc (suc (suc (suc (suc (suc (suc (suc (suc n))))))))) k left right h = absurd (omega arith)
+
+pub kind-at : (b : List ℕ) (c : Counts) (p at : ℕ) → ReadAs b c → p < c .policies → at ≡ at4 b + 4 + p * 4 → byte b at ≡ kindOf (schemeOf b .policy p)
+kind-at b c p at g l e =
+    let fit = g .bytes .policies p (omega (arith, g .counts .policies)) in
+    let known = by-kind (S b) p (field b p 0) (field b p 1) (field b p 2) (field b p 3) fit .known in
+    let same : byte b at ≡ field b p 0 = ap (byte b) (e ∙ sym (add-zero (at4 b + 4 + p * 4))) in
+    same
+    ∙ sym (kind-of (schemeOf b .policy) (field b p 0) (field b p 1) (field b p 2) (field b p 3) known)
+    ∙ ap kindOf (sym (policy-at b p (omega (arith, g .counts .policies)) fit))
+
+same-k : (j k : ℕ) → within j ≡ within k → j ≡ k
+same-k j k e = cc
+
+-- the k of a policy of kind within is at least 1
+pub within-positive : (b : List ℕ) (c : Counts) → ReadAs b c → (p k : ℕ) → p < c .policies → schemeOf b .policy p ≡ within k → 1 ≤ k
+within-positive b c g p k l e =
+    let fit = g .bytes .policies p (omega (arith, g .counts .policies)) in
+    let by = by-kind (S b) p (field b p 0) (field b p 1) (field b p 2) (field b p 3) fit in
+    let decoded = policy-at b p (omega (arith, g .counts .policies)) fit in
+    let three : field b p 0 ≡ 3 =
+    sym (kind-of (schemeOf b .policy) (field b p 0) (field b p 1) (field b p 2) (field b p 3) (by .known)) ∙ ap kindOf (sym decoded ∙ e) in
+    let same : field b p 1 ≡ k = same-k (field b p 1) k (sym (rw three at decoded) ∙ e) in
+    omega (arith, by .counted (omega arith) (omega arith))

@@ -22,6 +22,18 @@ policyOfRule lower (State set k) = state set (sideOf k)
 policyOfRule lower (Both left right) = both (lower left) (lower right)
 policyOfRule lower (Either left right) = either (lower left) (lower right)
 
+-- the number of a policy's kind
+abbrev pub kindOf : Policy → ℕ
+kindOf no-one = 0
+kindOf everyone = 1
+kindOf owner-only = 2
+kindOf (within k) = 3
+kindOf (known k) = 4
+kindOf (clique k) = 5
+kindOf (state set side) = 6
+kindOf (both p q) = 7
+kindOf (either p q) = 8
+
 -- what a rule's fields are, where it is policy p
 abbrev pub RuleFits : ℕ → Rule → Type 0
 RuleFits p NoOne = Unit {0}

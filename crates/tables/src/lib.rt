@@ -7,7 +7,7 @@ ghost use Rattle.model.specs.Bytes.{bit};
 ghost use Rattle.model.specs.Scheme.{lowest as lowestOf};
 ghost use Rattle.model.specs.SchemeBytes.{at3, at4, at5, schemeOf};
 ghost use Rattle.tables.specs.Read.{CountsOf, InRange, ReadAs, MarksOf};
-ghost use Rattle.tables.specs.Rules.{RuleOf, RuleAt, ResourceOf};
+ghost use Rattle.tables.specs.Rules.{kindOf, RuleOf, RuleAt, ResourceOf};
 
 // What is read once of a scheme: the five counts of its head record, and the states that make friends, as a set.
 pub struct Counts {
@@ -166,6 +166,14 @@ fn decode(kind: u8, k: u8, left: u8, right: u8) -> Rule
             right: right,
         },
     }
+}
+
+// The number of policy p's kind.
+pub fn kind(s: &[u8], c: Counts, p: usize) -> u8
+    requires { ⌜ ReadAs (now s) c × (p < c .policies) ⌝ }
+    ensures { λ r. ⌜ r ≡ kindOf (schemeOf (now (s .entry)) .policy p) ⌝ }
+{
+    s[policies_at(c) + p * 4]
 }
 
 // Policy p.

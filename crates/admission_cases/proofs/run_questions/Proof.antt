@@ -3,19 +3,15 @@ use Prim.Native.Nat.{_≤_, _-_}
 use mathlib.Core.Path.{_≡_}
 use borrow.Author.Needs.{needs}
 use lib.ListN.{length}
-use Rattle.network.proofs.Reading.{ready-read}
 use Rattle.admission_cases.proofs.run_questions.Statement.{statement}
 use Rattle.admission_cases.proofs.run_questions.Tie as tie
 
 abbrev Inv-loop : tie.InvT-loop
-Inv-loop number scheme c network count distances₀ rows₀ marks done₀ distances rows done =
+Inv-loop number scheme c network count distances₀ rows₀ done₀ distances rows done =
     (length distances ≡ 256) × (length rows ≡ 1024) × (done ≤ count)
 
 abbrev μ-loop : tie.MeasureT-loop
-μ-loop number scheme c network count distances₀ rows₀ marks done₀ distances rows done = count - done
-
-marks-requires : tie.Need-marks-requires Inv-loop μ-loop
-marks-requires c κs = ready-read (c .before .before .before .before .pre .0)
+μ-loop number scheme c network count distances₀ rows₀ done₀ distances rows done = count - done
 
 loop-holds : tie.Need-loop-holds Inv-loop μ-loop
 loop-holds c = search needs
@@ -56,7 +52,6 @@ run-questions-spec =
     (tie.spec
     Inv-loop
     μ-loop
-    marks-requires
     loop-holds
     run-question-requires
     same-length

@@ -14,12 +14,10 @@ use Rattle.model.specs.SchemeBytes.{schemeOf}
 use Rattle.model.proofs.Deciding.{Says, decided, conj, disj, is-eq}
 use Rattle.tables.specs.declared.Rule.{Rule}
 use Rattle.tables.specs.declared.Rule.the-variants.{NoOne, Everyone, Owner, Within, Known, Clique, State, Both, Either}
-use Rattle.tables.specs.Rules.{policyOfRule, RuleFits}
+use Rattle.tables.specs.Rules.{policyOfRule, kindOf, RuleFits}
 use Rattle.network.specs.Ready.{graphOf}
-use Rattle.network.proofs.Reading.{ready-range}
-use Rattle.policies.specs.Reading.{kindOf}
-use Rattle.policies.proofs.ByKind.{known-decides, clique-decides}
-use Rattle.policies.proofs.Granting.{near-of, shared-of, size-of, bit-says}
+use Rattle.policies.proofs.ByKind.{within-decides, clique-decides, offered-is}
+use Rattle.policies.proofs.Granting.{near-of, acquainted-of, size-of, bit-says}
 use borrow.Author.Needs.{needs}
 use Rattle.policies.proofs.rule_admits.Statement.{statement}
 use Rattle.policies.proofs.rule_admits.Tie as tie
@@ -35,21 +33,15 @@ module _ (s : tie.Start) where
   told : (r : Bool) (rule : Rule) → s .args .rule ≡ rule → Right r rule → Right r (s .args .rule)
   told r rule e d = rw e d
 
-  fits : (rule : Rule) → s .args .rule ≡ rule → RuleFits (s .pre .2 .p) rule
-  fits rule e = rw e at (s .pre .2 .at .fits)
-
-  inside : (s .args .u < graph .members) × (s .args .v < graph .members)
-  inside = omega (arith, s .pre .0 .counts)
-
-  small : (s .args .u < 256) × (s .args .v < 256)
-  small = omega (arith, ready-range (s .pre .0))
+  fits : (rule : Rule) → s .args .rule ≡ rule → RuleFits (s .pre .1 .p) rule
+  fits rule e = rw e at (s .pre .1 .at .fits)
 
   -- an operand's bit
   abbrev has : ℕ → Bool
   has q = bit (s .args .set) q
 
-  low : 7 ≤ kindOf (policyOfRule (schemeOf (now (s .args .scheme)) .policy) (s .args .rule)) → (q : ℕ) → q < s .pre .2 .p → Says (has q) (Admits graph (schemeOf (now (s .args .scheme)) .policy q) (s .args .u) (s .args .v))
-  low h = bit-says (now (s .args .scheme)) (now (s .args .network)) (s .args .u) (s .args .v) (s .args .set) (s .pre .2 .p) (s .pre .2 .lower (rw (s .pre .2 .at .policy) h))
+  low : 7 ≤ kindOf (policyOfRule (schemeOf (now (s .args .scheme)) .policy) (s .args .rule)) → (q : ℕ) → q < s .pre .1 .p → Says (has q) (Admits graph (schemeOf (now (s .args .scheme)) .policy q) (s .args .u) (s .args .v))
+  low h q l = bit-says (s .pre .1 .lower (rw (s .pre .1 .at .policy) h)) q (omega arith) l
 
   told-both : (l r : ℕ) (t : Bool) → s .args .rule ≡ Both l r → (has l && has r) ≡ t → Right t (s .args .rule)
   told-both l r t e d =
@@ -79,15 +71,16 @@ wide-requires : tie.Need-wide-requires
 wide-requires c κs = search needs
 
 within-requires : tie.Need-within-requires
-within-requires c κs =
-    let s = c .before .before .before .before .before .before .before in
-    omega (arith, small s)
+within-requires c κs = search needs
 
 enum-known-rule-2 : tie.Need-enum-known-rule-2
 enum-known-rule-2 c = search needs
 
 wide-requires-2 : tie.Need-wide-requires-2
 wide-requires-2 c κs = search needs
+
+admits-requires : tie.Need-admits-requires
+admits-requires c κs = search needs
 
 enum-known-rule-3 : tie.Need-enum-known-rule-3
 enum-known-rule-3 c = search needs
@@ -100,9 +93,9 @@ enum-known-rule-4 c = search needs
 
 in-state-requires : tie.Need-in-state-requires
 in-state-requires c κs =
-    let s = c .before .before .before .before .before .before in
+    let s = c .before .before .before .before .before in
     let k = c .before .rule4 .given in
-    (s .pre .0, fits s (State (k .0 .0) (k .0 .1 .0)) (k .1), s .pre .3, s .pre .4)
+    (s .pre .0, fits s (State (k .0 .0) (k .0 .1 .0)) (k .1), s .pre .2, s .pre .3)
 
 enum-known-rule-5 : tie.Need-enum-known-rule-5
 enum-known-rule-5 c = search needs
@@ -135,36 +128,36 @@ offered-requires-4 : tie.Need-offered-requires-4
 offered-requires-4 c κs = search needs
 
 returns : tie.Need-returns
-returns c = told (c .before .before .before .before .before) false NoOne (c .enum-told .given .1) (λ h. h)
+returns c = told (c .before .before .before .before) false NoOne (c .enum-told .given .1) (λ h. h)
 
 returns-2 : tie.Need-returns-2
-returns-2 c = told (c .before .before .before .before .before) true Everyone (c .enum-told2 .given .1) tt
+returns-2 c = told (c .before .before .before .before) true Everyone (c .enum-told2 .given .1) tt
 
 returns-3 : tie.Need-returns-3
 returns-3 c =
-    let s = c .before .before .before .before .before in
+    let s = c .before .before .before .before in
     let u = s .args .u in
     let v = s .args .v in
     told s (eqb u v) Owner (c .enum-told3 .given .1) (decided (is-eq u v))
 
 returns-4 : tie.Need-returns-4
 returns-4 c =
-    let s = c .before .before .before .before .before .before .before .before in
+    let s = c .before .before .before .before .before .before .before in
     let k = c .before .before .before .rule .given in
-    let (limit, l, d) = near-of (s .pre .2) (k .0 .0) (k .1) in
     told s (c .within .result) (Within (k .0 .0)) (k .1)
-    (rw (← c .before .wide .ensures .0) (c .within .ensures (graph s) (s .args .v) limit d (inside s .0) (omega arith)))
+    (within-decides (graph s) (s .args .u) (s .args .v) (k .0 .0) (c .before .wide .result) (s .args .relation .mark) (c .within .result) (c .before .wide .ensures .0)
+    (near-of (s .pre .1) (k .0 .0) (k .1)) (c .within .ensures))
 
 returns-5 : tie.Need-returns-5
 returns-5 c =
     let s = c .before .before .before .before .before .before .before in
-    let k = c .before .before .rule2 .given in
-    told s (leb (c .wide2 .result) (s .args .shared)) (Known (k .0 .0)) (k .1)
-    (rw (c .wide2 .ensures .0) (known-decides (shared-of (s .pre .2) (k .0 .0) (k .1)) (k .0 .0) (omega (arith, c .wide2 .ensures))))
+    let k = c .before .before .before .rule2 .given in
+    told s (c .admits .result) (Known (k .0 .0)) (k .1)
+    (rw (← c .before .wide2 .ensures .0) (c .admits .ensures (graph s) (s .args .u) (s .args .v) (acquainted-of (s .pre .1) (k .0 .0) (k .1))))
 
 returns-6 : tie.Need-returns-6
 returns-6 c =
-    let s = c .before .before .before .before .before .before .before in
+    let s = c .before .before .before .before .before .before in
     let k = c .before .before .rule3 .given in
     let u = s .args .u in
     let v = s .args .v in
@@ -173,33 +166,33 @@ returns-6 c =
 returns-7 : tie.Need-returns-7
 returns-7 c =
     let s = c .before .before .before .before .before .before .before .before in
-    let k = c .before .before .before .rule3 .given in
-    let n = c .before .if1 .left in
+    let k = c .before .before .before .before .rule3 .given in
+    let n = c .before .before .if1 .left in
     let (a, b) = fits s (Clique (k .0 .0)) (k .1) in
-    told s (leb (c .wide3 .result) (s .args .size)) (Clique (k .0 .0)) (k .1)
-    (rw (c .wide3 .ensures .0)
-    (clique-decides (graph s) (s .args .u) (s .args .v) n (k .0 .0) (s .args .size) a b (size-of (s .pre .2) (k .0 .0) (k .1) n)))
+    told s (leb (c .before .wide3 .result) (s .args .relation .clique)) (Clique (k .0 .0)) (k .1)
+    (rw (c .before .wide3 .ensures .0)
+    (clique-decides (graph s) (s .args .u) (s .args .v) n (k .0 .0) (s .args .relation .clique) a b (size-of (s .pre .1) (k .0 .0) (k .1) n)))
 
 returns-8 : tie.Need-returns-8
 returns-8 c =
-    let s = c .before .before .before .before .before .before .before in
+    let s = c .before .before .before .before .before .before in
     let k = c .before .before .rule4 .given in
     told s (c .in-state .result) (State (k .0 .0) (k .0 .1 .0)) (k .1) (c .in-state .ensures)
 
 returns-9 : tie.Need-returns-9
 returns-9 c =
-    let s = c .before .before .before .before .before .before .before .before .before .before in
+    let s = c .before .before .before .before .before .before .before .before .before in
     let k = c .before .before .before .before .before .rule5 .given in
-    let l : has s (k .0 .0) ≡ c .before .before .offered .result = cc in
-    let r : has s (k .0 .1 .0) ≡ c .offered2 .result = cc in
+    let l = offered-is (s .args .set) (c .before .before .before .wide4 .ensures .0) (c .before .before .offered .ensures) in
+    let r = offered-is (s .args .set) (c .before .wide5 .ensures .0) (c .offered2 .ensures) in
     told-both s (k .0 .0) (k .0 .1 .0) (c .before .before .offered .result && c .offered2 .result) (k .1) (rw (l, r))
 
 returns-10 : tie.Need-returns-10
 returns-10 c =
-    let s = c .before .before .before .before .before .before .before .before .before .before in
+    let s = c .before .before .before .before .before .before .before .before .before in
     let k = c .before .before .before .before .before .rule6 .given in
-    let l : has s (k .0 .0) ≡ c .before .before .offered3 .result = cc in
-    let r : has s (k .0 .1 .0) ≡ c .offered4 .result = cc in
+    let l = offered-is (s .args .set) (c .before .before .before .wide6 .ensures .0) (c .before .before .offered3 .ensures) in
+    let r = offered-is (s .args .set) (c .before .wide7 .ensures .0) (c .offered4 .ensures) in
     told-either s (k .0 .0) (k .0 .1 .0) (c .before .before .offered3 .result || c .offered4 .result) (k .1) (rw (l, r))
 
 pub rule-admits-spec : {M : Type 1} → statement M
@@ -214,6 +207,7 @@ rule-admits-spec =
     within-requires
     enum-known-rule-2
     wide-requires-2
+    admits-requires
     enum-known-rule-3
     wide-requires-3
     enum-known-rule-4

@@ -1,0 +1,27 @@
+-- What policies read of an owner and an accessor.
+use Prim.Native.Nat.{ℕ, _≤_, _<_}
+use mathlib.Core.Path.{_≡_}
+use mathlib.Core.List.{List}
+use mathlib.Core.Logic.{_↔_}
+use Rattle.model.specs.Graph.{Graph, Within}
+use Rattle.model.specs.Policies.{within}
+use Rattle.model.specs.SchemeBytes.{schemeOf}
+use Rattle.clique.specs.Cliques.{LargestClique}
+use Rattle.clique.specs.Mutual.{RowsOf}
+use Rattle.distance.specs.Distances.{Marks}
+use Rattle.known.specs.Acquainted.{Acquainted}
+use Rattle.relation.specs.declared.Relation.{Relation}
+
+-- what policies read of owner u and accessor v: the mark tells within k for each k asked; acquaintance and clique as far as asked
+pub record Related (g : Graph) (u v : ℕ) (Near : ℕ → Type 0) (Known Sized : Type 0) (r : Relation) : Type 0 where
+  pub near : (k : ℕ) → Near k → Within g k u v ↔ Marks (r .mark) k
+  pub acquainted : Known → Acquainted g u v (r .acquaintance)
+  pub sized : Sized → (u ≡ v → ⊥) → LargestClique g u v (r .clique)
+
+-- one of the policies from a number on, below the count, is within k
+abbrev pub SomeWithin : List ℕ → ℕ → ℕ → ℕ → Type 0
+SomeWithin b from count k = (p : ℕ) × (from ≤ p) × (p < count) × (schemeOf b .policy p ≡ within k)
+
+-- the size is that of the largest clique with u and v, where they are two, in every graph with these rows
+pub record CliqueSize (rows : List ℕ) (u v size : ℕ) : Type 0 where
+  pub largest : (g : Graph) → RowsOf g rows → u < g .members → v < g .members → (u ≡ v → ⊥) → LargestClique g u v size
