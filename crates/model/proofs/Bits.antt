@@ -1,15 +1,15 @@
 -- The laws of `digit x p = x / 2 ^ p % 2` over the machine's operations, and of the lowest bit.
 use mathlib.Core.Path.{_≡_, refl, sym, ap, _∙_, subst}
 use mathlib.Core.Bool.{Bool, true, false, cond, _&&_, and-false}
-use Prim.Native.Nat.{ℕ, zero, suc, _+_, _-_, _*_, _/_, _%_, _^_, _≤_, _<_, min, max}
-use native.Mathlib.Nat.{zero-div, mul-assoc, le-dest, div-one, div-div-eq-div-mul, pow-succ', pow-zero, two-pow-succ, div-eq-of-lt, lt-of-lt-of-le, mod-lt, zero-lt-suc, not-suc-le-zero, le-of-suc-le-suc, div-lt-iff-lt-mul, div-le-self, pow-suc}
+use Prim.Native.Nat.{ℕ, zero, suc, _+_, _*_, _/_, _%_, _^_, _≤_, _<_, min, max}
+use native.Mathlib.Nat.{zero-div, mul-assoc, le-dest, div-one, div-div-eq-div-mul, pow-succ', pow-zero, two-pow-succ, div-eq-of-lt, mod-lt, zero-lt-suc, not-suc-le-zero, le-of-suc-le-suc, div-lt-iff-lt-mul, div-le-self, pow-suc}
 use native.Mathlib.Decide.{ℕ-discrete, decLt}
 use native.Mathlib.Omega.{arith}
 use borrow.Author.Tests.{eq-eqb, ne-eqb, eqb-true, eqb-false}
 use lib.Arith.{digits-mod, lt-one}
 use lib.Bits.{shifted-even, bitAnd, bitOr, and-step, or-step, and-shr, or-shr, and-mask}
 use lib.Count.{trailingZeros, under}
-use lib.Dec.{eqb, lit<}
+use lib.Dec.{lit<}
 use lib.Pow.{shl-exact, pow-pos, pow-add, pow-lt, pow-mono, shl-shr}
 use Rattle.model.specs.Bytes.{digit, bit, NoBitFrom}
 use Rattle.model.specs.Scheme.{lowestFrom, lowest}

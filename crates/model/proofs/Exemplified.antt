@@ -1,12 +1,11 @@
 -- The small examples, computed.
-use Prim.Native.Nat.{ℕ, _+_, _*_}
-use mathlib.Core.Path.{_≡_, refl, sym, _∙_}
+use Prim.Native.Nat.{_+_, _*_}
+use mathlib.Core.Path.{_≡_, refl}
 use mathlib.Core.Bool.{Bool, true, false, _&&_, not}
 use mathlib.Core.List.{List, [], _∷_}
 use borrow.Author.Tests.{eqb-true}
 use lib.Dec.{eqb}
 use lib.ListN.{getD}
-use Rattle.model.specs.Answers.{Answers}
 use Rattle.model.specs.Graph.{count}
 use Rattle.model.specs.Scheme.{lowestFrom}
 use Rattle.model.specs.SchemeBytes.{schemeOf}
@@ -15,7 +14,7 @@ use Rattle.model.specs.Requests.{writes, those, put, granted}
 use Rattle.model.specs.Standard.{standard, standardBytes}
 use Rattle.model.specs.Examples.{small, joins, Admission, AllAdmissions, admissions, four, Judgement, AllJudged, judgements, Effects, freshBytes, Layout}
 use Rattle.model.proofs.Computing.{some, every, among, isWithin, friendOfAll, allFriends, someList, isClique, onSide, admits, stands, begins, goes, reached, closed, found, sure, finds, allows, first, tests, asks}
-use Rattle.model.proofs.Deciding.{Says, is-true, is-eq, is-lt, conj, negated, every-holds, is-admitted, Inside}
+use Rattle.model.proofs.Deciding.{is-true, is-eq, is-lt, conj, negated, every-holds, is-admitted, Inside}
 use Rattle.model.proofs.Places.{pair-before}
 use Rattle.model.proofs.Judging.{judged}
 

@@ -8,7 +8,7 @@ use lib.Dec.{ltb}
 use Rattle.model.specs.Answers.{Requirement, Answers}
 use Rattle.model.specs.Bytes.{bit}
 use Rattle.model.specs.Decides.{Decides}
-use Rattle.model.specs.Finding.{Finds, Allows}
+use Rattle.model.specs.Finding.{Allows}
 use Rattle.model.specs.Scheme.{Scheme, resources}
 use Rattle.model.specs.Network.{Maps, world, stateOf}
 use Rattle.model.specs.Requests.{Request, event, set-policy, find, list, view, next, needs}

@@ -1,25 +1,29 @@
+-- answers, numbers, bits
 pub mod Answering
+pub mod Bits
+pub mod Sets
+pub mod Counting
+pub mod Places
+-- the rules as functions that compute
 pub mod Computing
 pub mod Deciding
 pub mod Walking
 pub mod Judging
-pub mod Places
-pub mod Bits
-pub mod Counting
-pub mod Decoding
-pub mod Held
-pub mod Exemplified
-pub mod Logging
-pub mod Overlong
-pub mod StandardRead
+-- schemes and networks
 pub mod Cliques
-pub mod Sets
+pub mod Decoding
+pub mod Overlong
+pub mod Held
+pub mod ByteChanged
 pub mod Symmetry
+pub mod KeepsFit
+-- the log, the standard scheme, the examples
+pub mod Logging
+pub mod StandardRead
+pub mod Exemplified
+-- the claims
 pub mod Once
 pub mod Replayed
-pub mod Unseeing
-pub mod Sane
-pub mod Laying
-pub mod Accepting
+pub mod Unseen
 pub mod Tracing
 pub mod Playing

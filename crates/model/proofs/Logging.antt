@@ -77,8 +77,8 @@ module _ (log : List ℕ) (lent k : ℕ) where
       iff (λ h. (h .0, h .1 .0, h .1 .1)) (λ h. (h .0, (h .1, h .2)))
       (conj (is-le (k + 4 + size) (length log)) (conj (is-eq (two log k) size) (is-eq (two log (k + 2)) kind)))
 
-  unfoldable pub next : Outcome
-  next =
+  unfoldable pub nextOutcome : Outcome
+  nextOutcome =
       cond (leb (length log) k) ended
       (cond (isRecord 16 5) (request (ofKind 16))
       (cond (isRecord 17 4) (request (ofKind 17))
@@ -93,8 +93,8 @@ module _ (log : List ℕ) (lent k : ℕ) where
       go true is isnt = there (is refl)
       go false is isnt = missing (isnt refl)
 
-  pub next-is : NextAt log lent k next
-  unfolding next
+  pub next-is : NextAt log lent k nextOutcome
+  unfolding nextOutcome
   next-is =
       either-way (is-le (length log) k) _ _ (λ e. e) (λ more.
       either-way (is-record 16 5) _ _ (λ h. (more, (h, refl, refl, refl))) (λ no-event.
@@ -107,7 +107,7 @@ module _ (log : List ℕ) (lent k : ℕ) where
 -- the example logs, read
 compute : List Reading → List Reading
 compute [] = []
-compute ((b, place, says, after) ∷ rows) = (b, place, next b 256 place, placeAfter b place (next b 256 place)) ∷ compute rows
+compute ((b, place, says, after) ∷ rows) = (b, place, nextOutcome b 256 place, placeAfter b place (nextOutcome b 256 place)) ∷ compute rows
 
 all-read : (rows : List Reading) → AllRead (compute rows)
 unfolding compute
@@ -115,7 +115,7 @@ all-read [] = tt
 all-read ((b, place, says, after) ∷ rows) = (next-is b 256 place, refl, all-read rows)
 
 computed : compute readings ≡ readings
-unfolding compute next isRecord
+unfolding compute nextOutcome isRecord
 computed = refl
 
 pub readings-hold : AllRead readings

@@ -1,12 +1,12 @@
 -- At most one run for a list of requests.
 use Prim.Native.Nat.{ℕ}
-use mathlib.Core.Path.{_≡_, refl, sym, _∙_, ap, ap₂}
-use mathlib.Core.List.{List, [], _∷_}
+use mathlib.Core.Path.{_≡_, refl, sym, _∙_, ap₂}
+use mathlib.Core.List.{[], _∷_}
 use native.Mathlib.Omega.{arith}
 use Rattle.model.specs.Scheme.{Scheme}
 use Rattle.model.specs.Network.{Maps}
 use Rattle.model.specs.Requests.{Request, needs, writes, Turn, granted}
-use Rattle.model.specs.Machine.{Judged, after, Runs, requests}
+use Rattle.model.specs.Machine.{Judged, after}
 use Rattle.model.specs.Claims.{OneAnswer}
 use Rattle.model.proofs.Answering.{answers-unique}
 

@@ -1,6 +1,6 @@
 -- A scheme file longer than every accepted one is refused by its first bytes.
-use Prim.Native.Nat.{ℕ, zero, suc, _+_, _*_, _<_, _≤_}
-use mathlib.Core.Path.{_≡_, refl, sym}
+use Prim.Native.Nat.{ℕ, zero, suc, _*_, _<_, _≤_}
+use mathlib.Core.Path.{_≡_, refl}
 use mathlib.Core.List.{List, [], _∷_, _++_}
 use mathlib.Core.Logic.{inl, inr}
 use native.Mathlib.Omega.{arith}
@@ -8,7 +8,7 @@ use native.Mathlib.Nat.{mul-le-mul}
 use lib.ListN.{length, getD, length-append}
 use Rattle.model.specs.Answers.{Answers}
 use Rattle.model.specs.Bytes.{RecordAt}
-use Rattle.model.specs.SchemeBytes.{CountsFit, Records, schemeNeeds, Accepted, end}
+use Rattle.model.specs.SchemeBytes.{CountsFit, schemeNeeds, Accepted, end}
 
 front : (b rest : List ℕ) (k : ℕ) → k < length b → getD (b ++ rest) k 0 ≡ getD b k 0
 front [] rest k h = absurd (omega arith)

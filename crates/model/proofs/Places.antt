@@ -1,7 +1,6 @@
 -- Where pairs and settings stand: different places, and together every place.
 use Prim.Native.Nat.{ℕ, zero, suc, _+_, _*_, _/_, _%_, _-_, _<_, _≤_}
 use mathlib.Core.Path.{_≡_, refl, sym, _∙_, ap}
-use mathlib.Core.Logic.{_⊎_, inl, inr}
 use native.Mathlib.Omega.{arith}
 use native.Mathlib.Decide.{ℕ-discrete, decLt}
 use native.Mathlib.Nat.{mul-suc, suc-mul, add-mul-div-right, not-suc-le-zero, div-add-mod', mod-lt, div-lt-iff-lt-mul}

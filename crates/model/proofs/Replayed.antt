@@ -1,33 +1,28 @@
 -- The maps after a run are those that the granted requests tell.
 use Prim.Native.Nat.{ℕ, zero, suc, _+_, _<_, min, max}
-use mathlib.Core.Path.{_≡_, refl, sym, _∙_, ap, fun-ext}
-use mathlib.Core.Bool.{Bool, true, false, _&&_, cond, false≢true}
+use mathlib.Core.Path.{_≡_, refl, _∙_}
+use mathlib.Core.Bool.{Bool, true, false, _&&_, cond}
 use mathlib.Core.List.{List, [], _∷_, _++_}
-use mathlib.Core.Logic.{_⊎_, inl, inr, _↔_}
+use mathlib.Core.Logic.{inl, inr, _↔_}
 use lib.Dec.{eqb}
 use native.Mathlib.Omega.{arith}
 use Rattle.model.specs.Answers.{Answers}
 use Rattle.model.specs.Finding.{Finds, Allows}
 use Rattle.model.specs.Scheme.{Scheme}
-use Rattle.model.specs.Network.{Maps, side, fresh, world}
+use Rattle.model.specs.Network.{Maps, side, world}
 use Rattle.model.specs.Requests.{Request, event, set-policy, find, list, view, next, put, does, viewNeeds, Turn, granted}
 use Rattle.model.specs.Machine.{Judged, after, afterAll}
 use Rattle.model.specs.History.{moveOf, choiceOf, moves, choices, run, last, replayed}
-use Rattle.model.specs.Claims.{RunsAlone, ViewNext}
 use Rattle.model.proofs.Answering.{answers-unique}
-use borrow.Author.Tests.{eqb-true}
-
-and-both : (a b : Bool) → a && b ≡ true → (a ≡ true) × (b ≡ true)
-and-both true b e = (refl, e)
-and-both false b e = absurd (false≢true e)
+use Rattle.model.proofs.Held.{at-place, maps-path}
 
 -- one granted event, at the pair i j
 moved : (c : Scheme) (s : Maps) (v u a i j : ℕ) (l : List (ℕ × ℕ)) (t : Bool) → eqb i (min v u) && eqb j (max v u) ≡ t
     → run c (cond t (next c s v u a) (s .pair i j)) l ≡ run c (s .pair i j) (cond t ((side v u, a) ∷ []) [] ++ l)
 moved c s v u a i j l false e = refl
 moved c s v u a i j l true e =
-    let (p, q) = and-both (eqb i (min v u)) (eqb j (max v u)) e in
-    rw (eqb-true i (min v u) p, eqb-true j (max v u) q) refl
+    let (p, q) = at-place (min v u) (max v u) i j .yes-if e in
+    rw (p, q) refl
 
 chosen : (d p : ℕ) (l : List ℕ) (t : Bool) → last (cond t p d) l ≡ last d (cond t (p ∷ []) [] ++ l)
 chosen d p l false = refl
@@ -62,19 +57,13 @@ setting-last c s [] m r = refl
 setting-last c s (t ∷ ts) m r = setting-last c (after c s t) ts m r ∙ setting-replayed c s (t .request) (t .answer) m r (choices m r ts)
 
 pub all-replayed : (c : Scheme) (s : Maps) (ts : List Turn) → afterAll c s ts ≡ replayed c s ts
-all-replayed c s ts =
-    let p : afterAll c s ts .pair ≡ replayed c s ts .pair = fun-ext (λ i. fun-ext (λ j. pair-run c s ts i j)) in
-    let q : afterAll c s ts .setting ≡ replayed c s ts .setting = fun-ext (λ m. fun-ext (λ r. setting-last c s ts m r)) in
-    λ i. record { pair = p i; setting = q i }
-
-pub runs-alone : RunsAlone
-runs-alone c ts = (pair-run c (fresh c) ts, setting-last c (fresh c) ts)
+all-replayed c s ts = maps-path (afterAll c s ts) (replayed c s ts) (pair-run c s ts) (setting-last c s ts)
 
 -- a view asked next: the maps are those that are replayed, so the rules read them
-pub view-from : (c : Scheme) (first : Maps) (ts : List Turn) (v u o answer : ℕ) → v < c .members → u < c .members → o < c .items → (wrote : List ℕ)
+pub view-next : (c : Scheme) (first : Maps) (ts : List Turn) (v u o answer : ℕ) → v < c .members → u < c .members → o < c .items → (wrote : List ℕ)
     → Judged c (afterAll c first ts) (record { request = view v u o; answer = answer; written = wrote })
     → (answer ≡ 0) ↔ (Finds (world c (replayed c first ts)) v u × Allows (world c (replayed c first ts)) u (2 + c .primitives + o) v)
-view-from c first ts v u o answer bv bu bo wrote j = (granted-if, granted-only)
+view-next c first ts v u o answer bv bu bo wrote j = (granted-if, granted-only)
   where
     s : Maps
     s = afterAll c first ts
@@ -99,6 +88,3 @@ view-from c first ts v u o answer bv bu bo wrote j = (granted-if, granted-only)
       where
         back : Finds (world c s) v u × Allows (world c s) u (2 + c .primitives + o) v
         back = rw there h
-
-pub view-next : ViewNext
-view-next c = view-from c (fresh c)

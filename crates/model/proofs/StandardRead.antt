@@ -1,13 +1,13 @@
 -- The standard scheme's bytes: accepted for every number of members, and read back as document 01 lists them.
 use Prim.Native.Nat.{ℕ, zero, suc, _+_, _*_, _/_, _^_, _<_, _≤_}
-use mathlib.Core.Path.{_≡_, refl, sym, _∙_, ap}
-use mathlib.Core.Bool.{Bool, true, false, _&&_, _||_, false≢true}
+use mathlib.Core.Path.{_≡_, refl, ap}
+use mathlib.Core.Bool.{Bool, true, _&&_, _||_, false≢true}
 use mathlib.Core.List.{List, [], _∷_, _++_}
 use mathlib.Core.Logic.{_⊎_, inl, inr}
 use native.Mathlib.Omega.{arith}
 use lib.Dec.{eqb, leb, ltb}
 use lib.ListN.{getD}
-use Rattle.model.specs.Bytes.{byte, four, NoBitFrom}
+use Rattle.model.specs.Bytes.{byte, four}
 use Rattle.model.specs.Policies.{Policy, Admits, no-one, either}
 use Rattle.model.specs.Scheme.{Scheme, lowestFrom}
 use Rattle.model.specs.SchemeBytes.{schemeOf, policies, schemeNeeds, Accepted, at2, at3, at5, S, P, strangers, field, PolicyFits, MaskFits}
@@ -16,7 +16,7 @@ use Rattle.model.specs.Standard.{standardBytes, standard, standardPolici
 use Rattle.model.proofs.Computing.{every}
 use Rattle.model.proofs.Answering.{met-granted}
 use Rattle.model.proofs.Bits.{shr-zero}
-use Rattle.model.proofs.Deciding.{Says, is-eq, is-lt, is-le, conj, disj, iff, every-holds}
+use Rattle.model.proofs.Deciding.{Says, is-eq, is-lt, is-le, conj, disj, every-holds}
 
 -- a member's first k settings in a fresh network
 unfoldable pub settingsOf : Scheme → ℕ → ℕ → List ℕ

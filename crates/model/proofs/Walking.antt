@@ -1,15 +1,15 @@
 -- A computed set of members that is closed under steps is exactly the set of those that are found.
-use Prim.Native.Nat.{ℕ, zero, suc, _+_, _<_, _≤_}
-use mathlib.Core.Path.{_≡_, refl, sym, _∙_, ap}
+use Prim.Native.Nat.{ℕ, zero, suc, _<_}
+use mathlib.Core.Path.{_≡_, refl}
 use mathlib.Core.Bool.{Bool, true, false, _&&_, _||_, not, cond}
 use mathlib.Core.List.{List, [], _∷_, _++_}
 use mathlib.Core.Logic.{_⊎_, inl, inr}
 use native.Mathlib.Omega.{arith}
-use Rattle.model.specs.Graph.{Graph, Friends, Onward, Among}
+use Rattle.model.specs.Graph.{Onward, Among}
 use Rattle.model.specs.Finding.{Stands, Begins, Goes, Chain, Paths, World, paths, Finds}
 use Rattle.model.specs.Requests.{those}
-use Rattle.model.proofs.Computing.{some, every, among, admits, stands, begins, goes, reached, closed, found, sure, finds}
-use Rattle.model.proofs.Deciding.{Says, is-so, is-true, is-eq, is-lt, iff, conj, disj, negated, is-some, every-holds, is-among, is-admitted, Inside}
+use Rattle.model.proofs.Computing.{some, every, among, stands, begins, goes, reached, closed, found, sure, finds}
+use Rattle.model.proofs.Deciding.{Says, is-true, is-eq, is-lt, iff, conj, disj, negated, is-some, every-holds, is-among, is-admitted, Inside}
 
 among-append : (x : ℕ) (l r : List ℕ) → Among x (l ++ r) → Among x l ⊎ Among x r
 among-append x [] r h = inr h

@@ -8,7 +8,7 @@ use Rattle.model.specs.Answers.{Answers}
 use Rattle.model.specs.Bytes.{bit}
 use Rattle.model.specs.Graph.{Graph}
 use Rattle.model.specs.Policies.{Policy, known, clique, within, state, both, either, owner-only, no-one, everyone, any-side, owner-lesser, owner-greater, Admits}
-use Rattle.model.specs.Network.{Maps, graphOf}
+use Rattle.model.specs.Network.{Maps, markedGraph}
 use Rattle.model.specs.Requests.{Request, event, set-policy, find, list, view, needs, writes, does, granted}
 use Rattle.model.specs.Log.{Outcome, ended, refused, request, NextAt, placeAfter}
 use Rattle.model.specs.Calls.{Fresh, puts}
@@ -23,7 +23,7 @@ joins u v = friendship 0 1 || friendship 0 2 || friendship 1 2 || friendship 1 3
 
 -- friends are in state 3, all others in state 1
 abbrev pub small : Graph
-small = graphOf 5 joins (λ set u v. bit set (cond (joins u v) 3 1))
+small = markedGraph 5 joins (λ set u v. bit set (cond (joins u v) 3 1))
 
 -- a policy, owner, accessor, and whether it admits
 abbrev pub Admission : Type 0

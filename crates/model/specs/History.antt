@@ -1,7 +1,6 @@
 -- A pair's run and the last granted settings, taken from what was granted alone (document 01, "Demand 3's plain machine").
 use Prim.Native.Nat.{ℕ, min, max}
-use mathlib.Core.Path.{_≡_}
-use mathlib.Core.Bool.{Bool, _&&_, cond}
+use mathlib.Core.Bool.{_&&_, cond}
 use mathlib.Core.List.{List, [], _∷_, _++_}
 use lib.Dec.{eqb}
 use Rattle.model.specs.Scheme.{Scheme}

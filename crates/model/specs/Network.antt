@@ -67,8 +67,8 @@ abbrev pub stateOf : Maps → ℕ → ℕ → ℕ
 stateOf s u v = cond (eqb u v) 0 (s .pair (min u v) (max u v))
 
 -- the graph in which those pairs are friends that are marked: two members, and nobody is its own friend
-abbrev pub graphOf : ℕ → (ℕ → ℕ → Bool) → (ℕ → ℕ → ℕ → Bool) → Graph
-graphOf n marked inSet = record {
+abbrev pub markedGraph : ℕ → (ℕ → ℕ → Bool) → (ℕ → ℕ → ℕ → Bool) → Graph
+markedGraph n marked inSet = record {
   members = n;
   friends = λ u v. ltb u n && ltb v n && not (eqb u v) && marked u v;
   inSet = inSet;
@@ -77,6 +77,6 @@ graphOf n marked inSet = record {
 -- what requests are judged on
 abbrev pub world : Scheme → Maps → World
 world c s = record {
-  graph = graphOf (c .members) (λ u v. c .friendly (stateOf s u v)) (λ set u v. bit set (stateOf s u v));
+  graph = markedGraph (c .members) (λ u v. c .friendly (stateOf s u v)) (λ set u v. bit set (stateOf s u v));
   setting = λ m r. c .policy (s .setting m r);
 }

@@ -1,7 +1,8 @@
 -- The claims are theorems.
+use Rattle.model.specs.Claims.{FromFresh, FromValid}
 use Rattle.model.proofs.Once.{one-answer}
 use Rattle.model.proofs.Playing.{sixteen-lines}
-use Rattle.model.proofs.Tracing.{every-trace, runs-replayed, view-granted, items-unseen, every-trace-from}
+use Rattle.model.proofs.Tracing.{fresh-start, valid-start, traces-match, runs-replayed, view-granted, items-unseen}
 use Rattle.traces.specs.Cite.{CallMade}
 use Rattle.traces.proofs.Sound.{sound}
 use Rattle.traces.proofs.claims.Statement.{statement}
@@ -9,18 +10,27 @@ use Rattle.traces.proofs.claims.Tie as tie
 
 returns : tie.Need-returns
 returns c = (
-  every-trace CallMade sound,
+  traces-match CallMade sound FromFresh fresh-start,
   (
-    runs-replayed CallMade sound,
+    runs-replayed CallMade sound FromFresh fresh-start,
     (
-      view-granted CallMade sound,
+      view-granted CallMade sound FromFresh fresh-start,
       (
-        items-unseen CallMade sound,
+        items-unseen CallMade sound FromFresh fresh-start,
         (
-          every-trace-from CallMade sound,
+          traces-match CallMade sound FromValid valid-start,
           (
-            one-answer,
-            sixteen-lines,
+            runs-replayed CallMade sound FromValid valid-start,
+            (
+              view-granted CallMade sound FromValid valid-start,
+              (
+                items-unseen CallMade sound FromValid valid-start,
+                (
+                  one-answer,
+                  sixteen-lines,
+                ),
+              ),
+            ),
           ),
         ),
       ),

@@ -1,29 +1,32 @@
 -- Whoever does not find u, or does not view its items, sees nothing of u's settings of items.
-use Prim.Native.Nat.{ℕ, zero, suc, _+_, _<_, _≤_, min, max}
+use Prim.Native.Nat.{ℕ, zero, suc, _+_, _<_}
 use mathlib.Core.Path.{_≡_, refl, sym, _∙_, ap, subst}
-use mathlib.Core.Bool.{Bool, true, false, _&&_, cond, false≢true}
+use mathlib.Core.Bool.{Bool, true, false, _&&_, cond}
 use mathlib.Core.List.{List, [], _∷_}
 use mathlib.Core.Logic.{_⊎_, inl, inr}
 use native.Mathlib.Omega.{arith}
 use native.Mathlib.Decide.{ℕ-discrete}
 use lib.Dec.{eqb}
-use borrow.Author.Tests.{eqb-true, eqb-false}
-use Rattle.model.specs.Answers.{Requirement, Answers}
-use Rattle.model.specs.Bytes.{bit}
+use Rattle.model.specs.Answers.{Answers}
 use Rattle.model.specs.Graph.{Graph}
-use Rattle.model.specs.Finding.{Paths, World, paths, Chain, Finds, Allows}
-use Rattle.model.specs.Scheme.{Scheme, resources}
-use Rattle.model.specs.Network.{Maps, fresh, world}
+use Rattle.model.specs.Finding.{Paths, paths, Chain, Finds, Allows}
+use Rattle.model.specs.Scheme.{Scheme}
+use Rattle.model.specs.Network.{Maps, settingPlace, Laid, world}
 use Rattle.model.specs.Requests.{Request, event, set-policy, find, list, view, next, needs, writes, put, does, those, Turn, granted}
 use Rattle.model.specs.Machine.{Judged, after, Runs, afterAll}
-use Rattle.model.specs.Claims.{Item, Changed, Similar, Viewed, Alike, Apart, Unseen}
+use Rattle.model.specs.TwoLists.{Item, Changed, Similar, Viewed, Alike, OthersSame}
 use Rattle.model.proofs.Answering.{Same, answers-same, answers-unique}
+use Rattle.model.proofs.Held.{at-place, laid-same}
 
-and-both : (a b : Bool) → a && b ≡ true → (a ≡ true) × (b ≡ true)
-and-both true b e = (refl, e)
-and-both false b e = absurd (false≢true e)
+-- the same maps but for u's settings of items
+pub record Apart (c : Scheme) (u : ℕ) (s s' : Maps) : Type 0 where
+  pub pairs : s .pair ≡ s' .pair
+  pub others : (m r : ℕ) → (((m ≡ u) × Item c r) → ⊥) → s .setting m r ≡ s' .setting m r
 
 module _ (c : Scheme) (u : ℕ) where
+  pub apart-refl : (s : Maps) → Apart c u s s
+  apart-refl s = record { pairs = refl; others = λ m r n. refl }
+
   apart-sym : (s s' : Maps) → Apart c u s s' → Apart c u s' s
   apart-sym s s' a = record { pairs = sym (a .pairs); others = λ m r n. sym (a .others m r n) }
 
@@ -162,9 +165,9 @@ module _ (c : Scheme) (u : ℕ) where
       go : (m t : ℕ) → (((m ≡ u) × Item c t) → ⊥) → (b : Bool) → eqb m u && eqb t r ≡ b → cond b p (s .setting m t) ≡ s .setting m t
       go m t n false e = refl
       go m t n true e =
-          let (x, y) = and-both (eqb m u) (eqb t r) e in
-          absurd (n (eqb-true m u x, rw (eqb-true t r y) i))
-  item-apart (suc k) s r p i = record { pairs = refl; others = λ m t n. refl }
+          let (x, y) = at-place u r m t .yes-if e in
+          absurd (n (x, rw y i))
+  item-apart (suc k) s r p i = apart-refl s
 
   writes-same : (s s' : Maps) → Apart c u s s' → (q : Request) → writes c s q ≡ writes c s' q
   writes-same s s' a (event v w k) = refl
@@ -238,16 +241,18 @@ module _ (c : Scheme) (u : ℕ) where
     rw (e, e') (apart-trans _ _ _ (item-apart (t .answer) s r p i) (apart-trans _ _ _ a (apart-sym _ _ (item-apart (t' .answer) s' r p' i)))),
   )
 
-  pub unseen-from : (s s' : Maps) → Apart c u s s' → (ts ts' : List Turn) → Runs c s ts → Runs c s' ts' → Similar c u ts ts'
+  pub unseen : (s s' : Maps) → Apart c u s s' → (ts ts' : List Turn) → Runs c s ts → Runs c s' ts' → Similar c u ts ts'
       → Alike c u s ts ts' × Apart c u (afterAll c s ts) (afterAll c s' ts')
   unfolding Fine
-  unseen-from s s' a [] [] r r' q = (tt, a)
-  unseen-from s s' a [] (t' ∷ ts') r r' q = absurd q
-  unseen-from s s' a (t ∷ ts) [] r r' q = absurd q
-  unseen-from s s' a (t ∷ ts) (t' ∷ ts') (j, r) (j', r') (e, q) =
+  unseen s s' a [] [] r r' q = (tt, a)
+  unseen s s' a [] (t' ∷ ts') r r' q = absurd q
+  unseen s s' a (t ∷ ts) [] r r' q = absurd q
+  unseen s s' a (t ∷ ts) (t' ∷ ts') (j, r) (j', r') (e, q) =
       let (x, y, z) = turn-alike s s' a t t' e j j' in
-      let (l, d) = unseen-from (after c s t) (after c s' t') z ts ts' r r' q in
+      let (l, d) = unseen (after c s t) (after c s' t') z ts ts' r r' q in
       ((x, y, l), d)
 
-pub unseen : Unseen
-unseen c u ts ts' r r' q = unseen-from c u (fresh c) (fresh c) (record { pairs = refl; others = λ m r n. refl }) ts ts' r r' q
+-- the bytes that such maps are laid out as
+pub laid-apart : (c : Scheme) (u : ℕ) (s s' : Maps) (net net' : List ℕ) → Apart c u s s' → Laid c s net → Laid c s' net' → OthersSame c u net net'
+laid-apart c u s s' net net' a l l' k n =
+    laid-same c s s' net net' l l' (a .pairs) k (λ m r e. a .others m r (λ (z, i). n r i (e ∙ ap (λ (x : ℕ). settingPlace c x r) z)))

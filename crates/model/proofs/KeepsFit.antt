@@ -1,27 +1,29 @@
--- An accepted scheme keeps networks whole.
-use Prim.Native.Nat.{ℕ, zero, suc, _+_, _*_, _/_, _%_, _^_, _<_, _≤_}
-use mathlib.Core.Path.{_≡_, refl, sym, _∙_, ap}
-use mathlib.Core.Bool.{Bool, true, false, cond}
-use mathlib.Core.List.{List, [], _∷_}
+-- Under an accepted scheme maps that fit stay so.
+use Prim.Native.Nat.{ℕ, _+_, _*_, _^_, _<_, _≤_}
+use mathlib.Core.Path.{_≡_}
+use mathlib.Core.Bool.{true}
+use mathlib.Core.List.{List}
 use mathlib.Core.Logic.{_⊎_, inl, inr}
 use native.Mathlib.Omega.{arith}
-use native.Mathlib.Decide.{ℕ-discrete}
-use native.Mathlib.Nat.{pow-zero, two-pow-succ, pow-succ', div-div-eq-div-mul, div-one, pow-le-pow-right}
+use native.Mathlib.Nat.{pow-le-pow-right}
 use lib.Arith.{digits-lt}
-use lib.Dec.{eqb}
-use borrow.Author.Tests.{eq-eqb}
 use Rattle.model.specs.Bytes.{bit, byte, four, NoBitFrom}
-use Rattle.model.specs.Scheme.{Scheme, resources, lowestFrom, lowest}
-use Rattle.model.specs.SchemeBytes.{S, A, I, P, at2, at5, schemeOf, schemeNeeds, Accepted, BytesFit, CountsFit}
+use Rattle.model.specs.Scheme.{Scheme, resources, lowest}
+use Rattle.model.specs.SchemeBytes.{S, A, P, at2, at5, schemeOf, schemeNeeds, Accepted, BytesFit, CountsFit}
 use Rattle.model.specs.Requests.{Defined}
 use Rattle.model.proofs.Bits.{lowest-in, no-bit-below}
-use Rattle.model.proofs.Sane.{Sane}
 use Rattle.model.proofs.Answering.{granted-met}
 
-pub accepted-sane : (b : List ℕ) → Accepted b → Sane (schemeOf b)
-accepted-sane b h = go (granted-met (schemeNeeds b) (omega arith) h .1 .0) (granted-met (schemeNeeds b) (omega arith) h .1 .1 .1 .0)
+-- what makes fresh maps fit, and keeps maps that fit so
+pub record KeepsFit (c : Scheme) : Type 0 where
+  pub some-state : 0 < c .states
+  pub moves : (q b a : ℕ) → q < c .states → b < 2 → a < c .primitives → Defined (c .move q b a) → c .move q b a < c .states
+  pub masks : (r : ℕ) → r < resources c → bit (c .mask r) (lowest (c .mask r)) ≡ true
+
+pub accepted-keeps : (b : List ℕ) → Accepted b → KeepsFit (schemeOf b)
+accepted-keeps b h = go (granted-met (schemeNeeds b) (omega arith) h .1 .0) (granted-met (schemeNeeds b) (omega arith) h .1 .1 .1 .0)
   where
-    go : CountsFit b → BytesFit b → Sane (schemeOf b)
+    go : CountsFit b → BytesFit b → KeepsFit (schemeOf b)
     go c f = record {
       some-state = omega arith;
       moves = λ q s a x y z d. move q s a (f .moves ((q * 2 + s) * A b + a) (digits-lt (digits-lt x y) z)) d;
