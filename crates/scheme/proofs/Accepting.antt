@@ -5,7 +5,7 @@ use mathlib.Core.List.{List}
 use native.Mathlib.Omega.{arith}
 use Rattle.model.specs.SchemeBytes.{schemeNeeds, Accepted}
 use Rattle.model.proofs.Answering.{granted-met}
-use Rattle.tables.specs.Read.{CountsOf, ReadAs}
+use Rattle.tables.specs.Read.{CountsOf, ReadAs, MarksOf}
 use Rattle.scheme.specs.Checked.{Checked}
 use Rattle.tables.specs.declared.Counts.{Counts}
 use Rattle.scheme.specs.declared.Reading.{Reading}
@@ -18,5 +18,5 @@ accepted-read {b} {c} a k =
     record { counts = k; range = counts-in b c k (m .1 .0); records = m .1 .1 .0; bytes = m .1 .1 .1 .0 }
 
 -- what the scheme check says of a scheme that it accepts
-pub checked-read : (b : List ℕ) {x : Reading} {c : Counts} → x ≡ Passed c → Checked b x → Accepted b × ReadAs b c
-checked-read b {x} {c} e h = let d : Checked b (Passed c) = rw e at h in (d .0, accepted-read (d .0) (d .1))
+pub checked-read : (b : List ℕ) {x : Reading} {c : Counts} → x ≡ Passed c → Checked b x → Accepted b × ReadAs b c × MarksOf b (c .states) (c .marks)
+checked-read b {x} {c} e h = let d : Checked b (Passed c) = rw e at h in (d .0, accepted-read (d .0) (d .1), d .2)

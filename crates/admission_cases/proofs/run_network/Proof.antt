@@ -38,7 +38,7 @@ returns-3 c = search needs
 run-questions-requires : tie.Need-run-questions-requires
 run-questions-requires c κs =
     let r = checked-read _ (c .before .before .before .before .before .reading .given .1) (c .before .before .before .before .before .before .before .check .ensures) in (
-      record { accepted = r .0; counts = r .1 .counts; valid = passed (c .before .before .before .valid .result) (c .before .before .if1 .left) (c .before .before .before .valid .ensures) },
+      record { accepted = r .0; counts = r .1 .counts; marks = r .2; valid = passed (c .before .before .before .valid .result) (c .before .before .if1 .left) (c .before .before .before .valid .ensures) },
       search needs,
       search needs,
     )
