@@ -23,6 +23,10 @@ use Rattle.tables.specs.declared.Rule.the-variants.{NoOne, Everyone, Owner, Wit
 use Rattle.tables.specs.Rules.{policyOfRule, RuleFits}
 use Rattle.scheme.specs.Strangers.{AdmitsStranger}
 
+-- what a test of policy w, read as q, says of the set
+pub offered-is : (set : ℕ) {w q : ℕ} {r t : Bool} → w ≡ q → r ≡ bit set w → r ≡ t → bit set q ≡ t
+offered-is set e f g = cc
+
 -- the answer for a rule, on that side, where set has the policies of lower number
 abbrev pub answer : ℕ → ℕ → Rule → Bool
 answer side set NoOne = false

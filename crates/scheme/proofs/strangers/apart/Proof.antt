@@ -1,12 +1,11 @@
 use Prim.Native.Nat.{_+_, _<_}
-use mathlib.Core.Path.{_≡_}
-use mathlib.Core.Bool.{true, false}
+use mathlib.Core.Path.{_≡_, refl, ap, _∙_}
 use native.Mathlib.Omega.{arith}
 use denote.Ref.{now}
-use Rattle.model.specs.Bytes.{byte, bit}
+use Rattle.model.specs.Bytes.{byte}
 use Rattle.model.specs.Scheme.{lowest}
 use Rattle.model.specs.SchemeBytes.{schemeOf, at3, P}
-use Rattle.scheme.proofs.Admitting.{lowest-below, searched, apart-decides}
+use Rattle.scheme.proofs.Admitting.{offered-is, lowest-below, searched, apart-decides}
 use borrow.Author.Needs.{needs}
 use Rattle.scheme.proofs.strangers.apart.Statement.{statement}
 use Rattle.scheme.proofs.strangers.apart.Tie as tie
@@ -46,11 +45,15 @@ search-below c =
     rw (s .pre .counts .policies)
     (lowest-below (P b) (schemeOf b .mask 0) (rw (← c .before .mask .ensures .0) (omega arith)) (s .pre .bytes .masks 0 (omega arith)))
 
+-- and the code has its number
+searched-is : (c : tie.After-lowest) → c .lowest .result ≡ lowest (schemeOf (now (c .before .before .before .before .before .before .args .scheme)) .mask 0)
+searched-is c = c .lowest .ensures .0 ∙ ap lowest (c .before .mask .ensures .0)
+
 returns-2 : tie.Need-returns-2
 returns-2 c =
     let s = c .before .before .before .before .before .before .before .before .before in
     let b = now (s .args .scheme) in
-    let e : bit (c .before .before .admitting .result) (lowest (schemeOf b .mask 0)) ≡ true = cc in
+    let e = offered-is (c .before .before .admitting .result) (searched-is (c .before .before .before)) (c .before .offered .ensures) (c .if2 .taken) in
     searched b (s .args .c .policies) (search-below (c .before .before .before)) 1 (c .before .before .admitting .result) 0 1
     (c .before .before .admitting .ensures) (omega arith) (λ z. omega arith) e
 
@@ -68,8 +71,8 @@ returns-3 c =
     rw (← c .before .before .before .before .before .before .before .before .before .marks-at .ensures .2 b (s .pre .counts))
     (c .before .before .before .before .before .before .before .if1 .left) in
     let one = c .before .before .before .before .admitting .result in
-    let d : bit one (lowest (schemeOf b .mask 0)) ≡ false = cc in
-    let e : bit (c .before .admitting2 .result) (lowest (schemeOf b .mask 0)) ≡ c .offered2 .result = cc in
+    let d = offered-is one (searched-is (c .before .before .before .before .before)) (c .before .before .before .offered .ensures) (c .before .before .if2 .left) in
+    let e = offered-is (c .before .admitting2 .result) (searched-is (c .before .before .before .before .before)) (c .offered2 .ensures) refl in
     apart-decides b (s .args .c .policies) (search-below (c .before .before .before .before .before)) one (c .before .admitting2 .result)
     (c .before .before .before .before .admitting .ensures) (c .before .admitting2 .ensures) m d (c .offered2 .result) e
 

@@ -1,5 +1,5 @@
 use Prim.Native.Nat.{ℕ, _%_}
-use mathlib.Core.Path.{_≡_}
+use mathlib.Core.Path.{_≡_, refl}
 use mathlib.Core.Bool.{Bool, true, false}
 use denote.Ref.{now}
 use lib.Dec.{eqb}
@@ -10,7 +10,7 @@ use Rattle.model.specs.Policies.{OnSide, Admits}
 use Rattle.model.specs.SchemeBytes.{sideOf, strangers, schemeOf}
 use Rattle.model.proofs.Deciding.{decided}
 use Rattle.tables.specs.Rules.{policyOfRule}
-use Rattle.scheme.proofs.Admitting.{answer, rule-says}
+use Rattle.scheme.proofs.Admitting.{answer, offered-is, rule-says}
 use borrow.Author.Needs.{needs}
 use Rattle.scheme.proofs.strangers.rule_admits.Statement.{statement}
 use Rattle.scheme.proofs.strangers.rule_admits.Tie as tie
@@ -114,30 +114,30 @@ returns-10 : tie.Need-returns-10
 returns-10 c =
     let s = c .before .before .before .before .before .before .before .before .before in
     let g = c .before .before .before .before .before .before .rule2 .given in
-    let l : bit (s .args .set) (g .0 .0) ≡ true = cc in
-    let r : bit (s .args .set) (g .0 .1 .0) ≡ c .offered2 .result = cc in
+    let l = offered-is (s .args .set) (c .before .before .before .before .wide .ensures .0) (c .before .before .before .offered .ensures) (c .before .before .if3 .taken) in
+    let r = offered-is (s .args .set) (c .before .wide2 .ensures .0) (c .offered2 .ensures) refl in
     told s (c .offered2 .result) (rw (g .1, l, r))
 
 returns-11 : tie.Need-returns-11
 returns-11 c =
     let s = c .before .before .before .before .before .before .before in
     let g = c .before .before .before .before .rule2 .given in
-    let l : bit (s .args .set) (g .0 .0) ≡ false = cc in
+    let l = offered-is (s .args .set) (c .before .before .wide .ensures .0) (c .before .offered .ensures) (c .if3 .left) in
     told s (c .before .offered .result) (rw (g .1, l, c .if3 .left))
 
 returns-12 : tie.Need-returns-12
 returns-12 c =
     let s = c .before .before .before .before .before .before .before in
     let g = c .before .before .before .before .rule3 .given in
-    let l : bit (s .args .set) (g .0 .0) ≡ true = cc in
+    let l = offered-is (s .args .set) (c .before .before .wide3 .ensures .0) (c .before .offered3 .ensures) (c .if4 .taken) in
     told s (c .before .offered3 .result) (rw (g .1, l, c .if4 .taken))
 
 returns-13 : tie.Need-returns-13
 returns-13 c =
     let s = c .before .before .before .before .before .before .before .before .before in
     let g = c .before .before .before .before .before .before .rule3 .given in
-    let l : bit (s .args .set) (g .0 .0) ≡ false = cc in
-    let r : bit (s .args .set) (g .0 .1 .0) ≡ c .offered4 .result = cc in
+    let l = offered-is (s .args .set) (c .before .before .before .before .wide3 .ensures .0) (c .before .before .before .offered3 .ensures) (c .before .before .if4 .left) in
+    let r = offered-is (s .args .set) (c .before .wide4 .ensures .0) (c .offered4 .ensures) refl in
     told s (c .offered4 .result) (rw (g .1, l, r))
 
 pub rule-admits-spec : {M : Type 1} → statement M
