@@ -81,10 +81,13 @@ pub fn classify(c: Counts, r: usize) -> Resource
         0 => Resource::Search,
         1 => Resource::Traversal,
         2..=25 => {
-            if r - 2 < c.primitives {
-                Resource::Primitive(r - 2)
-            } else if r - 2 - c.primitives < c.items {
-                Resource::Item(r - 2 - c.primitives)
+            let a = r - 2;
+            if a < c.primitives {
+                return Resource::Primitive(a);
+            }
+            let o = a - c.primitives;
+            if o < c.items {
+                Resource::Item(o)
             } else {
                 Resource::Outside
             }

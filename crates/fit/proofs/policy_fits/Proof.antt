@@ -1,7 +1,7 @@
 use native.Mathlib.Omega.{arith}
 use mathlib.Core.Logic.{inl, inr}
 use Rattle.model.proofs.Deciding.{decided, says, iff}
-use Rattle.tables.proofs.Rules.{by-kind}
+use Rattle.tables.proofs.Rules.{by-kind, by-state}
 use borrow.Author.Needs.{needs}
 use Rattle.fit.proofs.policy_fits.Statement.{statement}
 use Rattle.fit.proofs.policy_fits.Tie as tie
@@ -34,7 +34,7 @@ returns-2 c =
     let a = c .before .before .args in
     decided (iff
     (λ h. inr (inr (inr (inl (omega arith, h .0, h .1)))))
-    (λ h. by-kind (a .states) (a .p) (a .kind) (a .k) (a .left) (a .right) h .state (omega arith))
+    (λ h. by-state (a .states) (a .p) (a .kind) (a .k) (a .left) (a .right) h (omega arith))
     (says {b = c .state-fits .result} (c .state-fits .ensures)))
 
 returns-3 : tie.Need-returns-3
