@@ -10,8 +10,8 @@ use lib.ListN.{length}
 use Rattle.model.specs.Bytes.{byte, four}
 use Rattle.model.specs.Decides.{Decides}
 use Rattle.model.proofs.Deciding.{decided, says, iff}
-use Rattle.model.specs.SchemeBytes.{S, A, I, P, at2, at3, at4, at5, end, field, MoveFits, PolicyFits, MaskFits, Records}
-use Rattle.tables.specs.Read.{CountsOf, InRange}
+use Rattle.model.specs.SchemeBytes.{S, A, I, P, at2, at3, at4, at5, field, MoveFits, PolicyFits, MaskFits, Records}
+use Rattle.tables.specs.Read.{InRange}
 use Rattle.tables.specs.declared.Counts.{Counts}
 use Rattle.tables.proofs.Places.{Places}
 

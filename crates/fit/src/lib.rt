@@ -3,7 +3,7 @@ use tables::Counts;
 ghost use mathlib.Core.Path.{_≡_};
 ghost use mathlib.Core.Logic.{_⊎_};
 ghost use Prim.Native.Nat.{ℕ, _+_, _*_, _<_, _≤_};
-ghost use lib.ListN.{length, getD};
+ghost use lib.ListN.{length};
 ghost use Rattle.model.specs.Decides.{Decides};
 ghost use Rattle.model.specs.Bytes.{byte, four as fourAt, NoBitFrom};
 ghost use Rattle.model.specs.SchemeBytes.{Records, BytesFit, PolicyFits, MaskFits};

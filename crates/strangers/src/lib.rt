@@ -1,10 +1,7 @@
-// Refusal 4: what strangers may do under a fresh network.
+// What strangers may do under a fresh network (document 01, "Scheme check", refusal 4).
 use tables::Counts;
 use tables::Rule;
-ghost use mathlib.Core.Path.{_≡_};
-ghost use mathlib.Core.Bool.{true};
-ghost use mathlib.Core.Logic.{_↔_};
-ghost use Prim.Native.Nat.{ℕ, _<_, _≤_};
+ghost use Prim.Native.Nat.{ℕ, _≤_};
 ghost use Rattle.model.specs.Decides.{Decides};
 ghost use Rattle.model.specs.Policies.{OnSide, Admits};
 ghost use Rattle.model.specs.SchemeBytes.{strangers, sideOf, schemeOf, StrangersApart};

@@ -1,8 +1,7 @@
 // Reads of a scheme's tables (document 01, "Scheme").
 ghost use mathlib.Core.Path.{_≡_};
 ghost use mathlib.Core.List.{List};
-ghost use Prim.Native.Nat.{ℕ, _+_, _*_, _<_, _≤_};
-ghost use lib.ListN.{length};
+ghost use Prim.Native.Nat.{ℕ, _+_, _<_, _≤_};
 ghost use Rattle.model.specs.Bytes.{bit};
 ghost use Rattle.model.specs.Scheme.{lowest as lowestOf};
 ghost use Rattle.model.specs.SchemeBytes.{at3, at4, at5, schemeOf};

@@ -1,4 +1,3 @@
-use native.Mathlib.Omega.{arith}
 use Rattle.model.specs.Decides.{Decides}
 use Rattle.model.proofs.Deciding.{refused, passed, decided, says, iff}
 use Rattle.tables.proofs.Places.{Places, places}

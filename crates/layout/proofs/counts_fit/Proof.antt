@@ -1,4 +1,3 @@
-use native.Mathlib.Omega.{arith}
 use Rattle.model.proofs.Deciding.{refused, passed, decided, says, iff}
 use borrow.Author.Needs.{needs}
 use Rattle.layout.proofs.counts_fit.Statement.{statement}

@@ -4,7 +4,6 @@ use mathlib.Core.Bool.{Bool, true, false}
 use denote.Ref.{now}
 use lib.Dec.{eqb}
 use borrow.Author.Tests.{ne-eqb}
-use Rattle.model.specs.Bytes.{bit}
 use Rattle.model.specs.Decides.{Decides}
 use Rattle.model.specs.Policies.{OnSide, Admits}
 use Rattle.model.specs.SchemeBytes.{sideOf, strangers, schemeOf}
