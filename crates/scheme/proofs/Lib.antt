@@ -1,3 +1,1 @@
 pub mod Accepting
-pub mod Admitting
-pub mod Fits

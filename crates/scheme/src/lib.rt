@@ -4,9 +4,6 @@ ghost use mathlib.Core.Path.{_≡_};
 ghost use Rattle.tables.specs.Read.{CountsOf, ReadAs, MarksOf};
 ghost use Rattle.scheme.specs.Checked.{Checked, numberOf};
 
-mod fit;
-mod strangers;
-
 // What the scheme check answers: the counts of an accepted scheme, or the refusal's number.
 pub enum Reading {
     Accepted(Counts),
@@ -31,11 +28,11 @@ pub fn check(scheme: &[u8]) -> Reading
     if !records::record_at(scheme, 0, 1, 6) {
         return Reading::Refused(1);
     }
-    let counts = fit::counts(scheme);
-    if !fit::counts_fit(counts) {
+    let counts = layout::counts(scheme);
+    if !layout::counts_fit(counts) {
         return Reading::Refused(2);
     }
-    if !fit::records(scheme, counts) {
+    if !layout::records(scheme, counts) {
         return Reading::Refused(1);
     }
     if !fit::bytes_fit(scheme, counts) {

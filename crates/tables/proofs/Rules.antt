@@ -14,55 +14,27 @@ use Rattle.tables.specs.Rules.{kindOf, RuleOf, RuleAt}
 use Rattle.tables.specs.declared.Counts.{Counts}
 use Rattle.tables.specs.declared.Rule.{Rule}
 
-pub record ByKind (S p kind k left right : ℕ) : Type 0 where
+pub record ByKind (p kind k left right : ℕ) : Type 0 where
   pub known : kind ≤ 8
   pub plain : kind ≤ 2 → (0 ≤ k) × (k ≤ 0) × (left ≡ 0) × (right ≡ 0)
   pub counted : 3 ≤ kind → kind ≤ 4 → (1 ≤ k) × (k ≤ 255) × (left ≡ 0) × (right ≡ 0)
   pub clique : kind ≡ 5 → (2 ≤ k) × (k ≤ 5) × (left ≡ 0) × (right ≡ 0)
-  pub state : kind ≡ 6 → (k ≤ 2) × NoBitFrom S (left + 256 * right)
   pub combined : 7 ≤ kind → (k ≡ 0) × (left < p) × (right < p)
 
-pub by-kind : (S p kind k left right : ℕ) → PolicyFits S p kind k left right → ByKind S p kind k left right
-by-kind S p kind k left right (inl h) = record {
-  known = omega arith;
-  plain = omega arith;
-  counted = omega arith;
-  clique = omega arith;
-  state = λ e. absurd (omega arith);
-  combined = omega arith;
-}
-by-kind S p kind k left right (inr (inl h)) = record {
-  known = omega arith;
-  plain = omega arith;
-  counted = omega arith;
-  clique = omega arith;
-  state = λ e. absurd (omega arith);
-  combined = omega arith;
-}
-by-kind S p kind k left right (inr (inr (inl h))) = record {
-  known = omega arith;
-  plain = omega arith;
-  counted = omega arith;
-  clique = omega arith;
-  state = λ e. absurd (omega arith);
-  combined = omega arith;
-}
-by-kind S p kind k left right (inr (inr (inr (inl h)))) = record {
-  known = omega arith;
-  plain = omega arith;
-  counted = omega arith;
-  clique = omega arith;
-  state = λ e. (h .1, h .2);
-  combined = omega arith;
-}
-by-kind S p kind k left right (inr (inr (inr (inr h)))) = record {
-  known = omega arith;
-  plain = omega arith;
-  counted = omega arith;
-  clique = omega arith;
-  state = λ e. absurd (omega arith);
-  combined = omega arith;
-}
+module _ (S p kind k left right : ℕ) where
+  pub by-kind : PolicyFits S p kind k left right → ByKind p kind k left right
+  by-kind (inl h) = omega arith
+  by-kind (inr (inl h)) = omega arith
+  by-kind (inr (inr (inl h))) = omega arith
+  by-kind (inr (inr (inr (inl h)))) = omega arith
+  by-kind (inr (inr (inr (inr h)))) = omega arith
+
+  pub by-state : PolicyFits S p kind k left right → kind ≡ 6 → (k ≤ 2) × NoBitFrom S (left + 256 * right)
+  by-state (inl h) e = absurd (omega arith)
+  by-state (inr (inl h)) e = absurd (omega arith)
+  by-state (inr (inr (inl h))) e = absurd (omega arith)
+  by-state (inr (inr (inr (inl h)))) e = (h .1, h .2)
+  by-state (inr (inr (inr (inr h)))) e = absurd (omega arith)
 
 -- the rule of the bytes where policy p stands is policy p
 pub rule-at : (b : List ℕ) (c : Counts) (p at : ℕ) (rule : Rule) → ReadAs b c → p < c .policies → at ≡ at4 b + 4 + p * 4

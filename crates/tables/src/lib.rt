@@ -1,8 +1,7 @@
 // Reads of a scheme's tables (document 01, "Scheme").
 ghost use mathlib.Core.Path.{_≡_};
 ghost use mathlib.Core.List.{List};
-ghost use Prim.Native.Nat.{ℕ, _+_, _*_, _<_, _≤_};
-ghost use lib.ListN.{length};
+ghost use Prim.Native.Nat.{ℕ, _+_, _<_, _≤_};
 ghost use Rattle.model.specs.Bytes.{bit};
 ghost use Rattle.model.specs.Scheme.{lowest as lowestOf};
 ghost use Rattle.model.specs.SchemeBytes.{at3, at4, at5, schemeOf};
@@ -82,10 +81,13 @@ pub fn classify(c: Counts, r: usize) -> Resource
         0 => Resource::Search,
         1 => Resource::Traversal,
         2..=25 => {
-            if r - 2 < c.primitives {
-                Resource::Primitive(r - 2)
-            } else if r - 2 - c.primitives < c.items {
-                Resource::Item(r - 2 - c.primitives)
+            let a = r - 2;
+            if a < c.primitives {
+                return Resource::Primitive(a);
+            }
+            let o = a - c.primitives;
+            if o < c.items {
+                Resource::Item(o)
             } else {
                 Resource::Outside
             }

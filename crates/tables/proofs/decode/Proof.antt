@@ -2,7 +2,7 @@ use Prim.Native.Nat.{ℕ, suc, _≤_, zero-le}
 use mathlib.Core.Path.{_≡_, refl}
 use native.Mathlib.Omega.{arith}
 use borrow.Author.Needs.{needs}
-use Rattle.tables.proofs.Rules.{by-kind}
+use Rattle.tables.proofs.Rules.{by-kind, by-state}
 use Rattle.tables.proofs.decode.Statement.{statement}
 use Rattle.tables.proofs.decode.Tie as tie
 
@@ -42,7 +42,7 @@ returns-6 c =
 returns-7 : tie.Need-returns-7
 returns-7 c =
     let a = c .before .args in
-    rw (c .match .keys7) (record { policy = λ lower h. refl; fits = λ S p h. by-kind S p 6 (a .k) (a .left) (a .right) h .state refl .0 })
+    rw (c .match .keys7) (record { policy = λ lower h. refl; fits = λ S p h. by-state S p 6 (a .k) (a .left) (a .right) h refl .0 })
 
 returns-8 : tie.Need-returns-8
 returns-8 c =

@@ -1,6 +1,5 @@
 use mathlib.Core.Path.{sym, ap}
 use Prim.Native.Nat.{ℕ, _<_, _^_}
-use native.Mathlib.Omega.{arith}
 use borrow.Author.Needs.{needs}
 use lib.Dec.{eqb}
 use Rattle.model.proofs.Bits.{shr-and-one, below-no-bit}

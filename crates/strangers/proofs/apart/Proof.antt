@@ -1,0 +1,93 @@
+use Prim.Native.Nat.{_+_, _<_}
+use mathlib.Core.Path.{_≡_, refl, ap, _∙_}
+use native.Mathlib.Omega.{arith}
+use denote.Ref.{now}
+use Rattle.model.specs.Bytes.{byte}
+use Rattle.model.specs.Scheme.{lowest}
+use Rattle.model.specs.SchemeBytes.{schemeOf, at3, P}
+use Rattle.strangers.proofs.Strangers.{offered-is, lowest-below, searched, apart-decides}
+use borrow.Author.Needs.{needs}
+use Rattle.strangers.proofs.apart.Statement.{statement}
+use Rattle.strangers.proofs.apart.Tie as tie
+
+marks-at-requires : tie.Need-marks-at-requires
+marks-at-requires c κs = search needs
+
+shared-slice-read-if1 : tie.Need-shared-slice-read-if1
+shared-slice-read-if1 c =
+    let s = c .before .before .before in
+    omega (arith, c .before .marks-at .ensures .2 (now (s .args .scheme)) (s .pre .counts), s .pre .records .friends .0)
+
+returns : tie.Need-returns
+returns c = λ h.
+    let s = c .before .before .before .before in
+    c .if1 .taken (rw (c .before .before .marks-at .ensures .2 (now (s .args .scheme)) (s .pre .counts)) (h .unmarked))
+
+mask-requires : tie.Need-mask-requires
+mask-requires c κs = search needs
+
+lowest-requires : tie.Need-lowest-requires
+lowest-requires c κs = search needs
+
+admitting-requires : tie.Need-admitting-requires
+admitting-requires c κs = search needs
+
+offered-requires : tie.Need-offered-requires
+offered-requires c κs = search needs
+
+-- the lowest search policy is one of the scheme's
+search-below : (c : tie.After-lowest)
+    → lowest (schemeOf (now (c .before .before .before .before .before .before .args .scheme)) .mask 0)
+    < c .before .before .before .before .before .before .args .c .policies
+search-below c =
+    let s = c .before .before .before .before .before .before in
+    let b = now (s .args .scheme) in
+    rw (s .pre .counts .policies)
+    (lowest-below (P b) (schemeOf b .mask 0) (rw (← c .before .mask .ensures .0) (omega arith)) (s .pre .bytes .masks 0 (omega arith)))
+
+-- and the code has its number
+searched-is : (c : tie.After-lowest) → c .lowest .result ≡ lowest (schemeOf (now (c .before .before .before .before .before .before .args .scheme)) .mask 0)
+searched-is c = c .lowest .ensures .0 ∙ ap lowest (c .before .mask .ensures .0)
+
+returns-2 : tie.Need-returns-2
+returns-2 c =
+    let s = c .before .before .before .before .before .before .before .before .before in
+    let b = now (s .args .scheme) in
+    let e = offered-is (c .before .before .admitting .result) (searched-is (c .before .before .before)) (c .before .offered .ensures) (c .if2 .taken) in
+    searched b (s .args .c .policies) (search-below (c .before .before .before)) 1 (c .before .before .admitting .result) 0 1
+    (c .before .before .admitting .ensures) (omega arith) (λ z. omega arith) e
+
+admitting-requires-2 : tie.Need-admitting-requires-2
+admitting-requires-2 c κs = search needs
+
+offered-requires-2 : tie.Need-offered-requires-2
+offered-requires-2 c κs = search needs
+
+returns-3 : tie.Need-returns-3
+returns-3 c =
+    let s = c .before .before .before .before .before .before .before .before .before .before .before in
+    let b = now (s .args .scheme) in
+    let m : byte b (at3 b + 4) ≡ 0 =
+    rw (← c .before .before .before .before .before .before .before .before .before .marks-at .ensures .2 b (s .pre .counts))
+    (c .before .before .before .before .before .before .before .if1 .left) in
+    let one = c .before .before .before .before .admitting .result in
+    let d = offered-is one (searched-is (c .before .before .before .before .before)) (c .before .before .before .offered .ensures) (c .before .before .if2 .left) in
+    let e = offered-is (c .before .admitting2 .result) (searched-is (c .before .before .before .before .before)) (c .offered2 .ensures) refl in
+    apart-decides b (s .args .c .policies) (search-below (c .before .before .before .before .before)) one (c .before .admitting2 .result)
+    (c .before .before .before .before .admitting .ensures) (c .before .admitting2 .ensures) m d (c .offered2 .result) e
+
+pub apart-spec : {M : Type 1} → statement M
+apart-spec =
+    tie.close
+    (tie.spec
+    marks-at-requires
+    shared-slice-read-if1
+    returns
+    mask-requires
+    lowest-requires
+    admitting-requires
+    offered-requires
+    returns-2
+    admitting-requires-2
+    offered-requires-2
+    returns-3)
