@@ -15,12 +15,12 @@ abbrev μ-loop : tie.MeasureT-loop
 μ-loop scheme c network v state₀ k₀ state k = c .members - k
 
 loop-holds : tie.Need-loop-holds Inv-loop μ-loop
-loop-holds c = (omega arith, let p = c .before .before .before .pre in begin-none (p .3) (p .4))
+loop-holds c = (omega arith, let p = c .before .before .before .pre in begin-none (p .2) (p .3))
 
 friends-requires : tie.Need-friends-requires Inv-loop μ-loop
 friends-requires c κs =
     let p = c .before .before .before .before .before .before .pre in
-    (p .0, p .1, p .2, omega arith)
+    (p .0, p .1, omega arith)
 
 slice-write-state : tie.Need-slice-write-state Inv-loop μ-loop
 slice-write-state c = omega (arith, ready-range (c .before .before .before .before .before .before .before .before .pre .0), c .before .before .before .before .loop .inv .1 .long)

@@ -39,7 +39,7 @@ slice-aggregate-walk c = search needs
 walk-requires : tie.Need-walk-requires
 walk-requires c κs =
     let p = c .before .before .before .before .before .before .before .before .before .before .before .before .pre in
-    (p .0, p .1, p .2, p .3, begun-walk (c .before .before .before .before .before .begin .ensures), λ b. c .before .before .before .if1 .left)
+    (p .0, p .1, p .2, begun-walk (c .before .before .before .before .before .begin .ensures), λ b. c .before .before .before .if1 .left)
 
 returns-3 : tie.Need-returns-3
 returns-3 c = c .before .before .walk .ensures .found (c .if3 .taken)
@@ -51,7 +51,7 @@ search-requires : tie.Need-search-requires
 search-requires c κs =
     let p = c .before .before .before .before .before .before .before .before .before .before .before .before .before .before .before .before .pre in
     let a = said-no (c .before .before .before .before .before .if2 .left) (c .before .before .before .before .before .before .allows .ensures) in
-    (p .0, p .2, p .3, a, c .before .before .before .walk .ensures .ended (c .before .if3 .left) .walking .walk .long)
+    (p .0, p .1, p .2, a, c .before .before .before .walk .ensures .ended (c .before .if3 .left) .walking .walk .long)
 
 slice-aggregate-walk-2 : tie.Need-slice-aggregate-walk-2
 slice-aggregate-walk-2 c = search needs
@@ -61,7 +61,7 @@ walk-requires-2 c κs =
     let p = c .before .before .before .before .before .before .before .before .before .before .before .before .before .before .before .before .before .before .before .pre in
     let x = c .before .before .before .before .before .before .walk .ensures .ended (c .before .before .before .before .if3 .left) .walking in
     let s = c .before .before .search .ensures in
-    (p .0, p .1, p .2, p .3, searched-walk s (x .walk), searched-unmet s (x .unmet) (c .before .before .before .before .before .before .before .before .if2 .left) (c .before .before .before .before .before .before .before .before .before .allows .ensures))
+    (p .0, p .1, p .2, searched-walk s (x .walk), searched-unmet s (x .unmet) (c .before .before .before .before .before .before .before .before .if2 .left) (c .before .before .before .before .before .before .before .before .before .allows .ensures))
 
 returns-4 : tie.Need-returns-4
 returns-4 c =

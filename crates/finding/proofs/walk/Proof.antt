@@ -51,7 +51,7 @@ chosen c =
 walk-holds : tie.Need-walk-holds Inv-loop μ-loop Inv-walk μ-walk
 walk-holds c =
     let p = c .before .before .before .before .before .pre in
-    (omega arith, omega arith, below-none _, below-none _, record { walk = p .4; kept = λ k a. omega arith; unmet = p .5 })
+    (omega arith, omega arith, below-none _, below-none _, record { walk = p .3; kept = λ k a. omega arith; unmet = p .4 })
 
 waiting-requires : tie.Need-waiting-requires Inv-loop μ-loop Inv-walk μ-walk
 waiting-requires c κs =
@@ -65,7 +65,7 @@ allows-requires : tie.Need-allows-requires Inv-loop μ-loop Inv-walk μ-walk
 allows-requires c κs =
     let p = c .before .before .before .before .before .before .before .before .before .before .pre in
     let e = p .0 .counts .members in
-    (p .0, p .2, omega (arith, chosen c .0), p .3, omega arith)
+    (p .0, p .1, omega (arith, chosen c .0), p .2, omega arith)
 
 walk-less-2 : tie.Need-walk-less-2 Inv-loop μ-loop Inv-walk μ-walk
 walk-less-2 c =
@@ -94,7 +94,7 @@ friend-requires c κs =
     let i = c .before .before .before .before .before .before .before .before .before .walk .inv in
     let p = c .before .before .before .before .before .before .before .before .before .before .before .before .before .before .before .pre in
     let q = p .0 .counts .members in
-    (p .0, p .1, omega arith, omega (arith, ready-range (p .0), expand-begin (i .4) _ b small e .long), c .before .first-unseen .ensures .within)
+    (p .0, omega arith, omega (arith, ready-range (p .0), expand-begin (i .4) _ b small e .long), c .before .first-unseen .ensures .within)
 
 loop-holds : tie.Need-loop-holds Inv-loop μ-loop Inv-walk μ-walk
 loop-holds c =
@@ -133,7 +133,7 @@ friend-requires-2 c κs =
     let l = c .before .before .before .before .before .loop in
     let p = c .before .before .before .before .before .before .before .before .before .before .before .before .before .before .before .before .before .before .before .before .before .before .pre in
     let q = p .0 .counts .members in
-    (p .0, p .1, omega arith, omega (arith, ready-range (p .0), length-set (l .state) (l .k) 1, l .inv .4 .long), omega arith)
+    (p .0, omega arith, omega (arith, ready-range (p .0), length-set (l .state) (l .k) 1, l .inv .4 .long), omega arith)
 
 loop-less : tie.Need-loop-less Inv-loop μ-loop Inv-walk μ-walk
 loop-less c = omega (arith, c .friend2 .ensures .onward)
