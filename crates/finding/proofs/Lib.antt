@@ -1,4 +1,1 @@
-pub mod Sums
-pub mod Marking
-pub mod Beginning
-pub mod Expanding
+mod ExactlyFound

@@ -18,5 +18,8 @@ accepted-read {b} {c} a k =
     record { counts = k; range = counts-in b c k (m .1 .0); records = m .1 .1 .0; bytes = m .1 .1 .1 .0 }
 
 -- what the scheme check says of a scheme that it accepts
-pub checked-read : (b : List ℕ) {x : Reading} {c : Counts} → x ≡ Passed c → Checked b x → Accepted b × ReadAs b c × MarksOf b (c .states) (c .marks)
-checked-read b {x} {c} e h = let d : Checked b (Passed c) = rw e at h in (d .0, accepted-read (d .0) (d .1), d .2)
+pub checked-read : (b : List ℕ) {x : Reading} {c : Counts} → x ≡ Passed c → Checked b x → Accepted b × ReadAs b c
+checked-read b {x} {c} e h = let d : Checked b (Passed c) = rw e at h in (d .0, accepted-read (d .0) (d .1))
+
+pub checked-marks : (b : List ℕ) {x : Reading} {c : Counts} → x ≡ Passed c → Checked b x → MarksOf b (c .states) (c .marks)
+checked-marks b {x} {c} e h = let d : Checked b (Passed c) = rw e at h in d .2

@@ -1,6 +1,6 @@
 use borrow.Author.Needs.{needs}
-use Rattle.finding.proofs.allows.Statement.{statement}
-use Rattle.finding.proofs.allows.Tie as tie
+use Rattle.starts.proofs.allows.Statement.{statement}
+use Rattle.starts.proofs.allows.Tie as tie
 
 setting-requires : tie.Need-setting-requires
 setting-requires c κs = search needs

@@ -1,15 +1,15 @@
 use Prim.Native.Nat.{_-_, _≤_}
 use native.Mathlib.Omega.{arith}
 use borrow.Author.Count.{below-more}
-use Rattle.finding.specs.Walks.{NobodyWaits}
-use Rattle.finding.proofs.waiting.Statement.{statement}
-use Rattle.finding.proofs.waiting.Tie as tie
+use Rattle.walk.specs.Walks.{AllSeen}
+use Rattle.walk.proofs.first_unseen.Statement.{statement}
+use Rattle.walk.proofs.first_unseen.Tie as tie
 
 abbrev Inv-loop : tie.InvT-loop
-Inv-loop members state from k₀ k = (k ≤ members) × NobodyWaits k state
+Inv-loop members seen from k₀ k = (k ≤ members) × AllSeen k seen
 
 abbrev μ-loop : tie.MeasureT-loop
-μ-loop members state from k₀ k = members - k
+μ-loop members seen from k₀ k = members - k
 
 loop-holds : tie.Need-loop-holds Inv-loop μ-loop
 loop-holds c = (c .pre .1, c .pre .2)
@@ -18,7 +18,7 @@ shared-slice-read-if1 : tie.Need-shared-slice-read-if1 Inv-loop μ-loop
 shared-slice-read-if1 c = omega arith
 
 returns : tie.Need-returns Inv-loop μ-loop
-returns c = record { within = omega arith; waits = λ l. c .if1 .taken; nobody = c .before .before .before .loop .inv .1 }
+returns c = record { within = omega arith; unseen = λ l. c .if1 .taken; everyone = c .before .before .before .loop .inv .1 }
 
 add-k : tie.Need-add-k Inv-loop μ-loop
 add-k c = omega arith
@@ -27,13 +27,13 @@ loop-less : tie.Need-loop-less Inv-loop μ-loop
 loop-less c = omega arith
 
 loop-again : tie.Need-loop-again Inv-loop μ-loop
-loop-again c = (omega arith, below-more _ _ (c .before .before .before .loop .inv .1) (c .if1 .left))
+loop-again c = (omega arith, below-more _ _ (c .before .before .before .loop .inv .1) (omega arith))
 
 returns-2 : tie.Need-returns-2 Inv-loop μ-loop
-returns-2 c = record { within = omega arith; waits = λ l. absurd (omega arith); nobody = c .before .loop .inv .1 }
+returns-2 c = record { within = omega arith; unseen = λ l. absurd (omega arith); everyone = c .before .loop .inv .1 }
 
-pub waiting-spec : {M : Type 1} → statement M
-waiting-spec =
+pub first-unseen-spec : {M : Type 1} → statement M
+first-unseen-spec =
     tie.close
     (tie.spec
     Inv-loop

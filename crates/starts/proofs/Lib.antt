@@ -1,0 +1,2 @@
+pub mod OneStored
+mod StartsMarked

@@ -1,0 +1,2 @@
+mod SumsFall
+mod StepsMarked
