@@ -1,5 +1,6 @@
 use Prim.Native.Nat.{_/_, _^_}
 use native.Mathlib.Omega.{arith}
+use Rattle.model.specs.SchemeBytes.{MaskFits}
 use Rattle.model.proofs.Bits.{shr-zero, zero-shr}
 use Rattle.model.proofs.Deciding.{decided, iff, is-eq}
 use borrow.Author.Needs.{needs}
@@ -15,7 +16,8 @@ shr-result c = search needs
 returns-2 : tie.Need-returns-2
 returns-2 c =
     let a = c .before .args in
-    decided (iff
+    decided {P = MaskFits (a .policies) (a .mask)}
+    (iff
     (λ e. (omega arith, shr-zero (a .policies) (a .mask) e))
     (λ h. zero-shr 32 (a .policies) (a .mask) (c .before .fits .mask .fits) (h .1))
     (is-eq (a .mask / 2 ^ a .policies) 0))

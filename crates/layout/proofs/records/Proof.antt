@@ -1,4 +1,3 @@
-use mathlib.Core.Path.{sym, _∙_}
 use native.Mathlib.Omega.{arith}
 use Rattle.model.proofs.Deciding.{refused, passed, decided, says, iff}
 use Rattle.tables.proofs.Places.{Places, places}
@@ -33,7 +32,7 @@ add-if1 : tie.Need-add-if1
 add-if1 c = search needs
 
 returns : tie.Need-returns
-returns c = λ r. c .if1 .taken (r .no-more ∙ sym (offsets (found (c .before)) .ends))
+returns c = λ r. omega (arith, r .no-more, offsets (found (c .before)) .ends)
 
 sub-record-at : tie.Need-sub-record-at
 sub-record-at c = search needs
@@ -86,7 +85,7 @@ returns-5 c =
       friends = rw (o .friends-at, c .before .before .before .before .before .before .before .before .before .before .before .before .before .before .pre .0 .states) at (passed (two .result) (c .before .before .before .before .if3 .left) (two .ensures));
       policies = rw (o .policies-at, o .policies-long) at (passed (three .result) (c .before .if4 .left) (three .ensures));
       masks = rw (o .masks-at, o .masks-long) at h;
-      no-more = c .before .before .before .before .before .before .before .before .if1 .left ∙ o .ends;
+      no-more = omega (arith, c .before .before .before .before .before .before .before .before .if1 .left, o .ends);
     })
     (λ r. rw (o .masks-at, o .masks-long) (r .masks))
     (says {b = c .record-at4 .result} (c .record-at4 .ensures)))

@@ -1,4 +1,5 @@
 use native.Mathlib.Omega.{arith}
+use Rattle.model.specs.Bytes.{RecordAt}
 use Rattle.model.proofs.Deciding.{decided, iff, is-eq}
 use borrow.Author.Needs.{needs}
 use Rattle.records.proofs.record_at.Statement.{statement}
@@ -27,7 +28,9 @@ two-requires-2 c κs = search needs
 
 returns-3 : tie.Need-returns-3
 returns-3 c =
-    decided (iff (λ e. (omega arith, omega arith, omega arith)) (λ h. omega (arith, h .2)) (is-eq (c .two2 .result) (c .before .before .before .before .before .args .kind)))
+    let a = c .before .before .before .before .before .args in
+    decided {P = RecordAt (a .s .now) (a .at) (a .kind) (a .size)}
+    (iff (λ e. (omega arith, omega arith, omega arith)) (λ h. omega (arith, h .2)) (is-eq (c .two2 .result) (a .kind)))
 
 pub record-at-spec : {M : Type 1} → statement M
 record-at-spec =

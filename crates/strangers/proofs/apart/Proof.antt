@@ -13,15 +13,18 @@ use Rattle.strangers.proofs.apart.Tie as tie
 marks-at-requires : tie.Need-marks-at-requires
 marks-at-requires c κs = search needs
 
+-- the byte that the code reads is the mark of state 0
+first-mark : (c : tie.After-marks-at)
+    → byte (now (c .before .before .args .scheme)) (c .marks-at .result) ≡ byte (now (c .before .before .args .scheme)) (at3 (now (c .before .before .args .scheme)) + 4)
+first-mark c = let b = now (c .before .before .args .scheme) in ap (byte b) (c .marks-at .ensures .2 b (c .before .before .pre .counts))
+
 shared-slice-read-if1 : tie.Need-shared-slice-read-if1
 shared-slice-read-if1 c =
     let s = c .before .before .before in
     omega (arith, c .before .marks-at .ensures .2 (now (s .args .scheme)) (s .pre .counts), s .pre .records .friends .0)
 
 returns : tie.Need-returns
-returns c = λ h.
-    let s = c .before .before .before .before in
-    c .if1 .taken (rw (c .before .before .marks-at .ensures .2 (now (s .args .scheme)) (s .pre .counts)) (h .unmarked))
+returns c = λ h. omega (arith, first-mark (c .before .before), h .unmarked)
 
 mask-requires : tie.Need-mask-requires
 mask-requires c κs = search needs
@@ -68,8 +71,7 @@ returns-3 c =
     let s = c .before .before .before .before .before .before .before .before .before .before .before in
     let b = now (s .args .scheme) in
     let m : byte b (at3 b + 4) ≡ 0 =
-    rw (← c .before .before .before .before .before .before .before .before .before .marks-at .ensures .2 b (s .pre .counts))
-    (c .before .before .before .before .before .before .before .if1 .left) in
+    omega (arith, first-mark (c .before .before .before .before .before .before .before .before .before), c .before .before .before .before .before .before .before .if1 .left) in
     let one = c .before .before .before .before .admitting .result in
     let d = offered-is one (searched-is (c .before .before .before .before .before)) (c .before .before .before .offered .ensures) (c .before .before .if2 .left) in
     let e = offered-is (c .before .admitting2 .result) (searched-is (c .before .before .before .before .before)) (c .offered2 .ensures) refl in
