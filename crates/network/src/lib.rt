@@ -4,3 +4,4 @@ pub mod next;
 pub mod read;
 pub mod rows;
 pub mod valid;
+pub mod write;
