@@ -1,2 +1,3 @@
-// The network: reads of its bytes (document 01, "Network").
+// The network: reads and writes of its bytes (document 01, "Network").
 pub mod read;
+pub mod write;

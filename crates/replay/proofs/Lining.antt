@@ -12,7 +12,7 @@ use Rattle.log.specs.Read.{outcome, Read}
 use Rattle.log.specs.declared.Answer.{Answer}
 use Rattle.requests.specs.Answered.{answered, numberOf, countOf, ListCalled}
 use Rattle.requests.specs.declared.Listed.{Listed}
-use Rattle.requests.proofs.Leaving.{list-left}
+use Rattle.requests.proofs.OutputLeft.{list-left}
 use Rattle.replay.specs.Lines.{Lined, Followed}
 use Rattle.replay.specs.declared.Line.{Line}
 use Rattle.replay.specs.declared.Line.the-variants.{Next, Last, End}

@@ -1,8 +1,9 @@
-pub mod Evented
-pub mod Judged
-pub mod Moving
-pub mod Opening
-pub mod Setting
-pub mod Writing
-pub mod Turning
-pub mod Leaving
+pub mod Unchanged
+pub mod EventAnswers
+pub mod SetAnswers
+pub mod FindAnswers
+pub mod ViewAnswers
+pub mod ListAnswers
+pub mod NextState
+pub mod ThoseBelow
+pub mod OutputLeft

@@ -10,7 +10,7 @@ use Rattle.model.specs.Requests.{needs, Turn, granted}
 use Rattle.model.specs.Calls.{callNeeds, Called}
 use Rattle.model.specs.Traces.{Trace, Happens}
 use Rattle.model.proofs.Answering.{answers-unique, ahead}
-use Rattle.requests.specs.Opened.{openNeeds}
+use Rattle.checks.specs.Opened.{openNeeds}
 use Rattle.traces.specs.Cite.{CallMade}
 use Rattle.traces.specs.Ran.{AllRefused}
 use Rattle.traces.proofs.Sound.{sound}

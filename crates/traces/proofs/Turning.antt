@@ -14,7 +14,7 @@ use Rattle.model.specs.Traces.{Trace, turns, lastBytes, Happens}
 use Rattle.model.proofs.Tracing.{every-trace, every-trace-from}
 use Rattle.requests.specs.Answered.{answered, numberOf, countOf, ListCalled}
 use Rattle.requests.specs.declared.Listed.{Listed}
-use Rattle.requests.proofs.Leaving.{list-left}
+use Rattle.requests.proofs.OutputLeft.{list-left}
 use Rattle.traces.specs.Cite.{CallMade}
 use Rattle.traces.specs.Ran.{requestOf, requestAt, asked, rowOf, listsOf, answersOf, writtenOf, Stepped, Turned, Kept, Ran}
 use Rattle.traces.proofs.Sound.{sound}

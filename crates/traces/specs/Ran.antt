@@ -10,7 +10,7 @@ use Rattle.model.specs.Requests.{Request, event, set-policy, find, list, view, 
 use Rattle.model.specs.Calls.{Fresh}
 use Rattle.model.specs.Machine.{requests}
 use Rattle.model.specs.Traces.{Trace, turns, lastBytes, Matches, Happens}
-use Rattle.requests.specs.Opened.{openNeeds}
+use Rattle.checks.specs.Opened.{openNeeds}
 use Rattle.traces.specs.Cite.{CallOf, CallMade}
 
 -- 0 event, 1 set, 2 find, 3 list, which is lent z of its 256 places, all where z is more; any other number view

@@ -10,9 +10,6 @@ use Rattle.tables.specs.declared.Resource.the-variants.{Search, Traversal, Prim
 use borrow.Author.Needs.{needs}
 use Rattle.requests.proofs.is_resource.Statement.{statement}
 use Rattle.requests.proofs.is_resource.Tie as tie
-use Rattle.requests.proofs.is_resource.Reads as reads
-use Rattle.requests.proofs.is_resource.Lts as lts
-use Rattle.tables.proofs.classify.Reads as classify-reads
 
 inside : Resource → Bool
 inside Search = true

@@ -1,18 +1,29 @@
-use mathlib.Core.Logic.{inl, inr}
 use native.Mathlib.Omega.{arith}
-use Rattle.network.specs.Ready.{Ready}
 use Rattle.network.proofs.Reading.{ready-read}
-use lib.ListN.{length}
-use Rattle.model.specs.Requests.{list}
-use Rattle.requests.proofs.Opening.{call-refused, opened-ready}
-use Rattle.requests.proofs.Judged.{list-refused, list-6, list-13, list-judged, list-0}
+use Rattle.scheme.specs.declared.Reading.the-variants.{Accepted}
+use Rattle.checks.specs.Opened.{Opened}
+use Rattle.checks.proofs.CallAnswers.{open-accepted, open-refused}
+use Rattle.requests.proofs.ListAnswers.{list-refused, list-13, list-judged, list-0}
 use borrow.Author.Needs.{needs}
 use Rattle.requests.proofs.list.Statement.{statement}
 use Rattle.requests.proofs.list.Tie as tie
 
--- past the scheme check and 5
-ready : (c : tie.After-reading) → Ready (c .before .before .before .before .before .before .args .scheme .now) (c .reading .given .0 .0) (c .before .before .before .before .before .before .args .network .now)
-ready c = opened-ready (c .before .before .before .before .before .before .args .scheme .now) (c .before .before .before .before .before .before .args .network .now) (c .reading .given .1) (c .before .before .open .ensures)
+abbrev start : tie.After-open → tie.Start
+start c = c .before .before .before .before
+
+abbrev after-open : tie.After-known-told → tie.After-open
+after-open c = c .before .before .before
+
+accepted : (c : tie.After-known-told)
+    → let s = start (after-open c) .args in
+    Opened (s .scheme .now) (s .network .now) (s .v) (s .u) (Accepted (c .before .reading .given .0 .0))
+accepted c = open-accepted _ _ _ _ (c .before .reading .given .1) (after-open c .open .ensures)
+
+abbrev after-known-told : tie.Else1 → tie.After-known-told
+after-known-told c = c .before .before
+
+abbrev else1 : tie.After-write-friends-arg → tie.Else1
+else1 c = c .before .before .before .before
 
 open-requires : tie.Need-open-requires
 open-requires c κs = search needs
@@ -27,41 +38,36 @@ number-requires : tie.Need-number-requires
 number-requires c κs = search needs
 
 returns : tie.Need-returns
-returns c =
-    let s = c .before .before .before .before .before .before .before .args in
-    let r = call-refused (s .scheme .now) (s .network .now) (list (s .v) (s .u) (length (s .output .now))) (c .before .enum-told .given .1) (c .before .before .before .open .ensures) (c .number .ensures) in
-    list-refused (s .scheme .now) (s .network .now) (s .v) (s .u) (s .output .now) (c .number .result) (r .0) (r .1)
+returns c = list-refused (open-refused _ _ _ _ (c .before .enum-told .given .1) (c .before .before .before .open .ensures) (c .number .ensures))
 
 returns-2 : tie.Need-returns-2
-returns-2 c = list-6 (ready (c .before .before .before)) (c .before .before .before .before .before .before .before .before .before .args .v) (c .before .before .before .before .before .before .before .before .before .args .u) (c .before .before .before .before .before .before .before .before .before .args .output .now) (inl (c .if1 .taken))
-
-returns-3 : tie.Need-returns-3
-returns-3 c = list-6 (ready (c .before .before .before .before .before)) (c .before .before .before .before .before .before .before .before .before .before .before .args .v) (c .before .before .before .before .before .before .before .before .before .before .before .args .u) (c .before .before .before .before .before .before .before .before .before .before .before .args .output .now) (inr (c .if2 .taken))
-
-returns-4 : tie.Need-returns-4
-returns-4 c = list-13 (ready (c .before .before .before .before .before .before .before)) (c .before .before .before .before .before .before .before .before .before .before .before .before .before .args .v) (c .before .before .before .before .before .before .before .before .before .before .before .before .before .args .u) (c .before .before .before .before .before .before .before .before .before .before .before .before .before .args .output .now) (c .before .before .before .before .if1 .left) (c .before .before .if2 .left) (c .if3 .taken)
+returns-2 c = list-13 (accepted (c .before .before)) (c .if1 .taken)
 
 judge-requires : tie.Need-judge-requires
-judge-requires c κs = (ready (c .before .before .before .before .before .before .before), c .before .before .before .before .if1 .left, c .before .before .if2 .left, omega arith)
+judge-requires c κs =
+    let (h, x, y) = accepted (after-known-told c) in
+    (h, x, y, omega arith)
 
-returns-5 : tie.Need-returns-5
-returns-5 c = list-judged (ready (c .before .before .before .before .before .before .before .before .before)) (c .before .before .before .before .before .before .before .before .before .before .before .before .before .before .before .args .v) (c .before .before .before .before .before .before .before .before .before .before .before .before .before .before .before .args .u) (c .before .before .before .before .before .before .before .before .before .before .before .before .before .before .before .args .output .now) (c .before .judge .result) (omega arith) (c .before .before .before .before .before .before .if1 .left) (c .before .before .before .before .if2 .left) (c .before .before .if3 .left) (c .before .judge .ensures)
+returns-3 : tie.Need-returns-3
+returns-3 c = list-judged (accepted (after-known-told (c .before .before))) (omega arith) (c .before .before .if1 .left) (c .before .judge .ensures)
 
 marks-requires : tie.Need-marks-requires
-marks-requires c κs = ready-read (ready (c .before .before .before .before .before .before .before .before .before))
+marks-requires c κs = ready-read (accepted (after-known-told (c .before .before)) .0)
 
 write-friends-requires : tie.Need-write-friends-requires
-write-friends-requires c κs = (ready (c .before .before .before .before .before .before .before .before .before .before .before), c .before .marks .ensures, c .before .before .before .before .before .before .if2 .left, c .before .before .before .before .if3 .left)
+write-friends-requires c κs =
+    let (h, x, y) = accepted (after-known-told (else1 c)) in
+    (h, c .before .marks .ensures, y, else1 c .if1 .left)
 
 same-length : tie.Need-same-length
 same-length c = search needs
 
-returns-6 : tie.Need-returns-6
-returns-6 c =
-    let s = c .before .before .before .before .before .before .before .before .before .before .before .before .before .before .before .before .before .before .before .before .args in
-    list-0 (ready (c .before .before .before .before .before .before .before .before .before .before .before .before .before .before)) (s .v) (s .u) (s .output .now) (c .before .before .write-friends .result) _ (c .before .before .before .before .before .before .before .before .before .before .before .if1 .left) (c .before .before .before .before .before .before .before .before .before .if2 .left) (c .before .before .before .before .before .before .before .if3 .left)
-    (rw (c .before .before .before .before .before .if4 .left) at (c .before .before .before .before .before .before .judge .ensures))
-    (c .before .before .write-friends .ensures)
+returns-4 : tie.Need-returns-4
+returns-4 c =
+    let w = c .before .before in
+    let d = else1 (w .before) in
+    let j = w .before .before .before in
+    list-0 (accepted (after-known-told d)) (j .if2 .left) (d .if1 .left) (j .before .judge .ensures) (w .write-friends .ensures)
 
 pub list-spec : {M : Type 1} → statement M
 list-spec =
@@ -73,11 +79,9 @@ list-spec =
     number-requires
     returns
     returns-2
-    returns-3
-    returns-4
     judge-requires
-    returns-5
+    returns-3
     marks-requires
     write-friends-requires
     same-length
-    returns-6)
+    returns-4)

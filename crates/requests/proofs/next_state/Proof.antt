@@ -1,8 +1,7 @@
-use mathlib.Core.Path.{_∙_}
 use mathlib.Core.Logic.{⊎-elim}
 use native.Mathlib.Omega.{arith}
 use Rattle.network.proofs.Reading.{ready-read}
-use Rattle.requests.proofs.Moving.{greater-side, lesser-side, next-is}
+use Rattle.requests.proofs.NextState.{greater-side, lesser-side, next-is}
 use borrow.Author.Needs.{needs}
 use Rattle.requests.proofs.next_state.Statement.{statement}
 use Rattle.requests.proofs.next_state.Tie as tie
@@ -15,16 +14,20 @@ wide-requires c κs = search needs
 
 next-state-requires : tie.Need-next-state-requires
 next-state-requires c κs =
-    let s = c .before .before .before .before .before in
-    (ready-read (s .pre .0), omega (arith, c .before .wide .ensures .0, c .before .before .state .ensures .1), ⊎-elim (λ w. omega (arith, w)) (λ w. omega (arith, w)) (c .if1 .came), s .pre .3)
+    let s = c .before .before .before .before .before in (
+      ready-read (s .pre .0),
+      omega (arith, c .before .wide .ensures .0, c .before .before .state .ensures .1),
+      ⊎-elim (λ w. omega (arith, w)) (λ w. omega (arith, w)) (c .if1 .came),
+      s .pre .3,
+    )
 
 returns : tie.Need-returns
 returns c =
     let s = c .before .before .before .before .before .before in
     let a = s .args in
-    next-is (a .scheme .now) (a .network .now) (a .v) (a .u) (a .a) _ _ _ (s .pre .4)
-    (c .before .before .wide .ensures .0 ∙ c .before .before .before .state .ensures .0)
-    (⊎-elim (λ w. greater-side (a .v) (a .u) _ (w .0 .taken) (w .1)) (λ w. lesser-side (a .v) (a .u) _ (w .0 .left) (w .1)) (c .before .if1 .came))
+    let w = c .before .before in
+    next-is (a .scheme .now) (a .network .now) (a .v) (a .u) (a .a) (s .pre .4) (w .before .state .ensures .0) (w .wide .ensures .0)
+    (⊎-elim (λ x. greater-side (a .v) (a .u) _ (x .0 .taken) (x .1)) (λ x. lesser-side (a .v) (a .u) _ (x .0 .left) (x .1)) (c .before .if1 .came))
     (c .next-state .ensures)
 
 pub next-state-spec : {M : Type 1} → statement M

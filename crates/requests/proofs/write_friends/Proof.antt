@@ -1,29 +1,22 @@
-use Prim.Native.Nat.{ℕ, _+_, _-_, _≤_}
-use mathlib.Core.Path.{_≡_, refl, sym, _∙_}
+use Prim.Native.Nat.{_-_, _≤_}
+use mathlib.Core.Path.{_≡_}
 use mathlib.Core.Logic.{⊎-elim}
 use native.Mathlib.Omega.{arith}
 use borrow.Author.Needs.{needs}
-use lib.ListN.{length, length-set}
-use Rattle.model.specs.Requests.{those}
 use Rattle.network.specs.Ready.{graphOf}
 use Rattle.network.proofs.Reading.{ready-range}
-use Rattle.requests.specs.Answered.{Written}
-use Rattle.requests.proofs.Writing.{written-none, written-with, written-without}
+use Rattle.requests.proofs.ThoseBelow.{ThoseBelow, below-none, below-with, below-without}
 use Rattle.requests.proofs.write_friends.Statement.{statement}
 use Rattle.requests.proofs.write_friends.Tie as tie
-use Rattle.requests.proofs.write_friends.Reads as reads
-use Rattle.requests.proofs.write_friends.Lts as lts
-use Rattle.network.proofs.read.friends.Reads as friends-reads
 
 abbrev Inv-loop : tie.InvT-loop
-Inv-loop scheme c marks network u output₀ count₀ m₀ output count m = (m ≤ c .members) × (count ≤ m) × (length output ≡ length output₀) × Written (those (graphOf scheme network .friends u) m) count output₀ output
+Inv-loop scheme c marks network u output₀ count₀ m₀ output count m = (m ≤ c .members) × ThoseBelow (graphOf scheme network .friends u) output₀ m count output
 
 abbrev μ-loop : tie.MeasureT-loop
 μ-loop scheme c marks network u output₀ count₀ m₀ output count m = c .members - m
 
 loop-holds : tie.Need-loop-holds Inv-loop μ-loop
-unfolding those
-loop-holds c = (omega arith, omega arith, refl, written-none _)
+loop-holds c = (omega arith, below-none _ _)
 
 friends-requires : tie.Need-friends-requires Inv-loop μ-loop
 friends-requires c κs = search needs
@@ -48,16 +41,12 @@ loop-less c = search needs
 
 loop-again : tie.Need-loop-again Inv-loop μ-loop
 loop-again c =
-    let s = c .before .before .before .before .before .before .before .before .args in
     let l = c .before .before .before .before .loop in
-    let f = graphOf (s .scheme .now) (s .network .now) .friends (s .u) in
     let e = c .before .friends .ensures in (
       omega arith,
-      ⊎-elim (λ w. omega (arith, w)) (λ w. omega (arith, w)) (c .if2 .came),
-      ⊎-elim (λ w. rw (w .1) (simp length-set (l .inv .2))) (λ w. rw (w .1) (l .inv .2)) (c .if2 .came),
       ⊎-elim
-          (λ w. rw (w .1, w .2) (written-with f (l .m) (l .inv .3) (sym e ∙ w .0 .taken) (omega arith)))
-          (λ w. rw (w .1, w .2) (written-without f (l .m) (l .inv .3) (sym e ∙ w .0 .left)))
+          (λ w. rw (w .1, w .2) (below-with _ (l .inv .1) e (w .0 .taken) (omega arith)))
+          (λ w. rw (w .1, w .2) (below-without _ (l .inv .1) e (w .0 .left)))
           (c .if2 .came),
     )
 
@@ -66,10 +55,9 @@ same-length c = search needs
 
 returns : tie.Need-returns Inv-loop μ-loop
 returns c =
-    let s = c .before .before .before .before .before .before .args in
     let l = c .before .before .loop in
-    let e : l .m ≡ s .c .members = omega arith in
-    rw (← e) (l .inv .3)
+    let e : l .m ≡ c .before .before .before .before .before .before .args .c .members = omega arith in
+    rw (← e) (l .inv .1 .written)
 
 pub write-friends-spec : {M : Type 1} → statement M
 write-friends-spec =

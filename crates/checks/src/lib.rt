@@ -1,0 +1,141 @@
+// What several calls check: the scheme, the network and the members (1 to 6), finding and admission (9, 10 and 11).
+use scheme::Reading;
+use tables::Counts;
+ghost use mathlib.Core.Path.{_≡_};
+ghost use mathlib.Core.Logic.{_⊎_};
+ghost use Prim.Native.Nat.{_+_, _<_};
+ghost use lib.ListN.{length};
+ghost use Rattle.model.specs.Answers.{Answers};
+ghost use Rattle.model.specs.Decides.{Decides};
+ghost use Rattle.model.specs.Finding.{Finds};
+ghost use Rattle.model.specs.Graph.{Friends};
+ghost use Rattle.network.specs.Ready.{Ready, worldOf, graphOf};
+ghost use Rattle.checks.specs.Judged.{judgeNeeds};
+ghost use Rattle.checks.specs.Opened.{Opened};
+
+// The scheme check; 5 if the network does not pass; 6 if v or u is no member.
+pub fn open(scheme: &[u8], network: &[u8], v: usize, u: usize) -> Reading
+    ensures { λ r. ⌜ Opened (now (scheme .entry)) (now (network .entry)) v u r ⌝ }
+{
+    let reading = scheme::check(scheme);
+    let Reading::Accepted(c) = reading else {
+        return reading;
+    };
+    if !validity::valid(scheme, c, network) {
+        return Reading::Refused(5);
+    }
+    if v >= c.members {
+        return Reading::Refused(6);
+    }
+    if u >= c.members {
+        return Reading::Refused(6);
+    }
+    Reading::Accepted(c)
+}
+
+fn no_distances() -> [u16; 256]
+    ensures { λ r. ⌜ length r ≡ 256 ⌝ }
+{
+    [0u16; 256]
+}
+
+fn no_rows() -> [u64; 1024]
+    ensures { λ r. ⌜ length r ≡ 1024 ⌝ }
+{
+    [0u64; 1024]
+}
+
+// Whether v and u are one or friends: then v finds u, and nothing has to be prepared.
+fn near(scheme: &[u8], c: Counts, network: &[u8], v: usize, u: usize) -> bool
+    requires { ⌜ Ready (now scheme) c (now network) × (v < c .members) × (u < c .members) ⌝ }
+    ensures { λ r. ⌜ Decides r ((u ≡ v) ⊎ Friends (graphOf (now (scheme .entry)) (now (network .entry))) u v) ⌝ }
+{
+    if u == v {
+        return true;
+    }
+    network::read::friends(scheme, c, network, u, v)
+}
+
+// Whether v finds u.
+pub fn found(scheme: &[u8], c: Counts, network: &[u8], v: usize, u: usize) -> bool
+    requires { ⌜ Ready (now scheme) c (now network) × (v < c .members) × (u < c .members) ⌝ }
+    ensures { λ r. ⌜ Decides r (Finds (worldOf (now (scheme .entry)) (now (network .entry))) v u) ⌝ }
+{
+    if near(scheme, c, network, v, u) {
+        return true;
+    }
+    let mut distances = no_distances();
+    let mut rows = no_rows();
+    prepared::prepare(scheme, c, network, v, &mut distances, &mut rows);
+    finding::finds(scheme, c, network, &distances, &rows, v, u)
+}
+
+// Of members that are one or friends: 10 if nothing is defined; 11 if u's setting for resource r does not admit v; else 0.
+fn judge_near(
+    scheme: &[u8],
+    c: Counts,
+    network: &[u8],
+    v: usize,
+    u: usize,
+    r: usize,
+    defined: bool,
+) -> u8
+    requires { ⌜ Ready (now scheme) c (now network) × (v < c .members) × (u < c .members) × (r < 2 + c .primitives + c .items) × ((u ≡ v) ⊎ Friends (graphOf (now scheme) (now network)) u v) ⌝ }
+    ensures { λ k. ⌜ Answers (judgeNeeds (worldOf (now (scheme .entry)) (now (network .entry))) v u r defined) k ⌝ }
+{
+    if !defined {
+        return 10;
+    }
+    let p = records::wide(network::read::setting(scheme, c, network, u, r));
+    if !policies::admits_friend(scheme, c, network, u, v, p) {
+        return 11;
+    }
+    0
+}
+
+// Of members that are not: 9 if v does not find u; then as above.
+fn judge_apart(
+    scheme: &[u8],
+    c: Counts,
+    network: &[u8],
+    v: usize,
+    u: usize,
+    r: usize,
+    defined: bool,
+) -> u8
+    requires { ⌜ Ready (now scheme) c (now network) × (v < c .members) × (u < c .members) × (r < 2 + c .primitives + c .items) ⌝ }
+    ensures { λ k. ⌜ Answers (judgeNeeds (worldOf (now (scheme .entry)) (now (network .entry))) v u r defined) k ⌝ }
+{
+    let mut distances = no_distances();
+    let mut rows = no_rows();
+    prepared::prepare(scheme, c, network, v, &mut distances, &mut rows);
+    if !finding::finds(scheme, c, network, &distances, &rows, v, u) {
+        return 9;
+    }
+    if !defined {
+        return 10;
+    }
+    if !starts::allows(scheme, c, network, &distances, &rows, u, r, v) {
+        return 11;
+    }
+    0
+}
+
+// 9 if v does not find u; 10 if nothing is defined; 11 if u's setting for resource r does not admit v; else 0.
+pub fn judge(
+    scheme: &[u8],
+    c: Counts,
+    network: &[u8],
+    v: usize,
+    u: usize,
+    r: usize,
+    defined: bool,
+) -> u8
+    requires { ⌜ Ready (now scheme) c (now network) × (v < c .members) × (u < c .members) × (r < 2 + c .primitives + c .items) ⌝ }
+    ensures { λ k. ⌜ Answers (judgeNeeds (worldOf (now (scheme .entry)) (now (network .entry))) v u r defined) k ⌝ }
+{
+    if near(scheme, c, network, v, u) {
+        return judge_near(scheme, c, network, v, u, r, defined);
+    }
+    judge_apart(scheme, c, network, v, u, r, defined)
+}

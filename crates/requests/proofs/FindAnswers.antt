@@ -1,0 +1,26 @@
+-- Find, answer by answer.
+use Prim.Native.Nat.{ℕ}
+use mathlib.Core.Path.{refl}
+use mathlib.Core.List.{List, [], _∷_}
+use Rattle.model.specs.Answers.{Requirement, Answers}
+use Rattle.model.specs.Finding.{Finds}
+use Rattle.model.specs.Requests.{find}
+use Rattle.model.specs.Calls.{Called}
+use Rattle.scheme.specs.declared.Reading.the-variants.{Accepted, Refused}
+use Rattle.tables.specs.declared.Counts.{Counts}
+use Rattle.network.specs.Ready.{worldOf}
+use Rattle.checks.specs.Opened.{Opened}
+use Rattle.checks.proofs.CallAnswers.{refusal-stands, later-answers}
+use Rattle.requests.specs.Answered.{answered}
+use Rattle.requests.proofs.Unchanged.{asked-unchanged}
+
+-- what find asks beyond 6
+abbrev findLater : List ℕ → List ℕ → ℕ → ℕ → List Requirement
+findLater b net v u = (9, Finds (worldOf b net) v u) ∷ []
+
+module _ {b net : List ℕ} {v u k : ℕ} where
+  pub find-refused : Opened b net v u (Refused k) → Called b net (answered (find v u) k) net
+  find-refused h = asked-unchanged b net (find v u) k refl refl (refusal-stands b net v u (findLater b net v u) k h)
+
+  pub find-judged : {c : Counts} → Opened b net v u (Accepted c) → Answers (findLater b net v u) k → Called b net (answered (find v u) k) net
+  find-judged h a = asked-unchanged b net (find v u) k refl refl (later-answers b net v u (findLater b net v u) k h a)
