@@ -1,11 +1,10 @@
 // Who finds whom (document 01, "Finding").
-pub use starts::allows;
 use tables::Counts;
 ghost use Prim.Native.Nat.{_<_};
 ghost use Rattle.model.specs.Decides.{Decides};
 ghost use Rattle.model.specs.Finding.{Finds};
 ghost use Rattle.network.specs.Ready.{Ready, worldOf};
-ghost use Rattle.policies.specs.Admission.{Prepared};
+ghost use Rattle.prepared.specs.Prepared.{Prepared};
 
 // Whether v finds u.
 pub fn finds(
@@ -25,7 +24,7 @@ pub fn finds(
     if seen[u] != 0 {
         return true; // v, or its friend
     }
-    if allows(scheme, c, network, distances, rows, u, 0, v) {
+    if starts::allows(scheme, c, network, distances, rows, u, 0, v) {
         return true; // by search
     }
     if walk::walk(scheme, c, network, distances, rows, v, u, &mut seen) {

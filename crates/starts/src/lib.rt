@@ -6,7 +6,7 @@ ghost use lib.ListN.{length, getD};
 ghost use Rattle.model.specs.Decides.{Decides};
 ghost use Rattle.model.specs.Finding.{Allows};
 ghost use Rattle.network.specs.Ready.{Ready, worldOf};
-ghost use Rattle.policies.specs.Admission.{Prepared};
+ghost use Rattle.prepared.specs.Prepared.{Prepared};
 ghost use Rattle.starts.specs.Starts.{Begun, SearchAdded};
 
 // Whether u's setting for resource r admits v.

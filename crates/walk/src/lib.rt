@@ -4,7 +4,7 @@ ghost use mathlib.Core.Path.{_≡_};
 ghost use Prim.Native.Nat.{_<_, _≤_, min};
 ghost use lib.ListN.{length};
 ghost use Rattle.network.specs.Ready.{Ready, worldOf};
-ghost use Rattle.policies.specs.Admission.{Prepared};
+ghost use Rattle.prepared.specs.Prepared.{Prepared};
 ghost use Rattle.walk.specs.Walks.{NobodyWaits, AllSeen, FirstWaiting, FirstUnseen, Walk, Unmet, Walked};
 
 // The first member that waits, or their number; nobody below a member does.

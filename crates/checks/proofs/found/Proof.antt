@@ -1,32 +1,17 @@
-use Prim.Native.Nat.{ℕ, _<_}
-use mathlib.Core.Path.{_≡_, refl, sym, _∙_}
-use mathlib.Core.Bool.{Bool, true}
-use mathlib.Core.List.{List, []}
-use mathlib.Core.Logic.{inl, inr}
-use native.Mathlib.Omega.{arith}
-use Rattle.model.specs.Finding.{Finds}
-use Rattle.tables.specs.declared.Counts.{Counts}
-use Rattle.network.specs.Ready.{Ready, worldOf, graphOf}
-use Rattle.network.proofs.Reading.{ready-read}
+use mathlib.Core.Path.{_≡_}
+use Rattle.model.proofs.Deciding.{said-yes}
+use Rattle.checks.proofs.NearFound.{near-found}
 use borrow.Author.Needs.{needs}
 use Rattle.checks.proofs.found.Statement.{statement}
 use Rattle.checks.proofs.found.Tie as tie
 
--- a friend is found
-friend-found : {b net : List ℕ} {c : Counts} → Ready b c net → (v u : ℕ) (r : Bool) → u < c .members → r ≡ graphOf b net .friends v u → r ≡ true
-    → Finds (worldOf b net) v u
-friend-found h v u r l e f = (u, [], (omega (arith, h .counts .members), inr (inl (sym e ∙ f))), refl)
-
-marks-requires : tie.Need-marks-requires
-marks-requires c κs = ready-read (c .before .before .pre .0)
-
-friends-requires : tie.Need-friends-requires
-friends-requires c κs = search needs
+near-requires : tie.Need-near-requires
+near-requires c κs = search needs
 
 returns : tie.Need-returns
 returns c =
-    let s = c .before .before .before .before .before in
-    friend-found (s .pre .0) (s .args .v) (s .args .u) (c .before .friends .result) (s .pre .2) (c .before .friends .ensures) (c .if1 .taken)
+    let s = c .before .before .before .before in
+    near-found (s .pre .0) (s .args .v) (s .args .u) (s .pre .2) (said-yes (c .if1 .taken) (c .before .near .ensures))
 
 no-distances-requires : tie.Need-no-distances-requires
 no-distances-requires c κs = search needs
@@ -59,8 +44,7 @@ pub found-spec : {M : Type 1} → statement M
 found-spec =
     tie.close
     (tie.spec
-    marks-requires
-    friends-requires
+    near-requires
     returns
     no-distances-requires
     no-rows-requires
