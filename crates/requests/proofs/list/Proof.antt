@@ -23,7 +23,7 @@ abbrev after-known-told : tie.Else1 → tie.After-known-told
 after-known-told c = c .before .before
 
 abbrev else1 : tie.After-write-friends-arg → tie.Else1
-else1 c = c .before .before .before .before
+else1 c = c .before .before .before
 
 open-requires : tie.Need-open-requires
 open-requires c κs = search needs
@@ -51,13 +51,10 @@ judge-requires c κs =
 returns-3 : tie.Need-returns-3
 returns-3 c = list-judged (accepted (after-known-told (c .before .before))) (omega arith) (c .before .before .if1 .left) (c .before .judge .ensures)
 
-marks-requires : tie.Need-marks-requires
-marks-requires c κs = ready-read (accepted (after-known-told (c .before .before)) .0)
-
 write-friends-requires : tie.Need-write-friends-requires
 write-friends-requires c κs =
     let (h, x, y) = accepted (after-known-told (else1 c)) in
-    (h, c .before .marks .ensures, y, else1 c .if1 .left)
+    (h, y, else1 c .if1 .left)
 
 same-length : tie.Need-same-length
 same-length c = search needs
@@ -66,7 +63,7 @@ returns-4 : tie.Need-returns-4
 returns-4 c =
     let w = c .before .before in
     let d = else1 (w .before) in
-    let j = w .before .before .before in
+    let j = w .before .before in
     list-0 (accepted (after-known-told d)) (j .if2 .left) (d .if1 .left) (j .before .judge .ensures) (w .write-friends .ensures)
 
 pub list-spec : {M : Type 1} → statement M
@@ -81,7 +78,6 @@ list-spec =
     returns-2
     judge-requires
     returns-3
-    marks-requires
     write-friends-requires
     same-length
     returns-4)

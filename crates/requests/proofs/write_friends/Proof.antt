@@ -10,10 +10,10 @@ use Rattle.requests.proofs.write_friends.Statement.{statement}
 use Rattle.requests.proofs.write_friends.Tie as tie
 
 abbrev Inv-loop : tie.InvT-loop
-Inv-loop scheme c marks network u output₀ count₀ m₀ output count m = (m ≤ c .members) × ThoseBelow (graphOf scheme network .friends u) output₀ m count output
+Inv-loop scheme c network u output₀ count₀ m₀ output count m = (m ≤ c .members) × ThoseBelow (graphOf scheme network .friends u) output₀ m count output
 
 abbrev μ-loop : tie.MeasureT-loop
-μ-loop scheme c marks network u output₀ count₀ m₀ output count m = c .members - m
+μ-loop scheme c network u output₀ count₀ m₀ output count m = c .members - m
 
 loop-holds : tie.Need-loop-holds Inv-loop μ-loop
 loop-holds c = (omega arith, below-none _ _)
