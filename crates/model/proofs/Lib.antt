@@ -16,6 +16,7 @@ pub mod Cliques
 pub mod Sets
 pub mod Symmetry
 pub mod Once
+pub mod Leaving
 pub mod Replayed
 pub mod Unseeing
 pub mod Sane

@@ -5,19 +5,18 @@ use mathlib.Core.Bool.{Bool, true, false}
 use mathlib.Core.List.{List, [], _∷_, _++_}
 use mathlib.Core.Logic.{_⊎_, inl, inr}
 use native.Mathlib.Omega.{arith}
-use lib.ListN.{length, take, drop}
-use lib.Seq.{take-append-seam}
+use lib.ListN.{length, take}
 use Rattle.model.specs.Answers.{Answers}
 use Rattle.model.specs.Decides.{Decides}
 use Rattle.model.specs.Finding.{World, Finds, Allows}
 use Rattle.model.specs.SchemeBytes.{schemeOf}
 use Rattle.model.specs.Network.{held}
 use Rattle.model.specs.Requests.{Request, find, list, view, writes, those, BothMembers}
-use Rattle.model.specs.Calls.{callNeeds, puts, Called}
+use Rattle.model.specs.Calls.{callNeeds, puts, Called, FrontOnly}
 use Rattle.tables.specs.declared.Counts.{Counts}
 use Rattle.network.specs.Ready.{Ready, worldOf, graphOf}
 use Rattle.requests.specs.declared.Listed.the-variants.{Friends, Refused}
-use Rattle.requests.specs.Answered.{answered, Written, listed, ListCalled}
+use Rattle.requests.specs.Answered.{answered, ListCalled}
 use Rattle.requests.specs.Judged.{judgeNeeds}
 use Rattle.requests.proofs.Opening.{call-judged}
 
@@ -38,7 +37,7 @@ past-10 w v u r k (inr (f, inr (t, a))) = inr (f, a)
 
 pub list-refused : (b net : List ℕ) (v u : ℕ) (out : List ℕ) (k : ℕ) → 1 ≤ k → Answers (callNeeds b net (list v u (length out))) k → ListCalled b net v u out (Refused k) out
 list-refused b net v u out zero l a = absurd (omega arith)
-list-refused b net v u out (suc k) l a = record { called = record { answered = a; wrote = refl; bytes = refl }; filled = record { counted = refl; filled = refl } }
+list-refused b net v u out (suc k) l a = record { called = record { answered = a; wrote = refl; bytes = refl }; front = record { within = omega arith; behind = refl } }
 
 module _ {b net : List ℕ} {c : Counts} (h : Ready b c net) (v u : ℕ) where
   outside : (c .members ≤ v) ⊎ (c .members ≤ u) → BothMembers (schemeOf b) v u → ⊥
@@ -97,12 +96,9 @@ module _ {b net : List ℕ} {c : Counts} (h : Ready b c net) (v u : ℕ) where
 
     pub list-0 : (count : ℕ) (after : List ℕ) → v < c .members → u < c .members → c .members ≤ length out
         → Answers (judgeNeeds (worldOf b net) v u 1 true) 0
-        → Written (those (graphOf b net .friends u) (c .members)) count out after
+        → (take count after ≡ those (graphOf b net .friends u) (c .members)) × FrontOnly count out after
         → ListCalled b net v u out (Friends count) after
-    list-0 count after x y l a w = record {
-      called = record { answered = judged 0 x y l a; wrote = front ∙ ap (those (graphOf b net .friends u)) (h .counts .members); bytes = refl };
-      filled = record { counted = w .counted ∙ sym (ap length front); filled = w .filled ∙ rw front };
+    list-0 count after x y l a (w, f) = record {
+      called = record { answered = judged 0 x y l a; wrote = w ∙ ap (those (graphOf b net .friends u)) (h .counts .members); bytes = refl };
+      front = f;
     }
-      where
-        front : take count after ≡ those (graphOf b net .friends u) (c .members)
-        front = rw (w .counted, w .filled) (take-append-seam (those (graphOf b net .friends u) (c .members)) _)

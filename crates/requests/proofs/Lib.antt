@@ -5,4 +5,3 @@ pub mod Opening
 pub mod Setting
 pub mod Writing
 pub mod Turning
-pub mod Leaving

@@ -1,29 +1,27 @@
-use Prim.Native.Nat.{ℕ, _+_, _-_, _≤_}
+use Prim.Native.Nat.{_-_, _≤_}
 use mathlib.Core.Path.{_≡_, refl, sym, _∙_}
 use mathlib.Core.Logic.{⊎-elim}
 use native.Mathlib.Omega.{arith}
 use borrow.Author.Needs.{needs}
-use lib.ListN.{length, length-set}
+use lib.ListN.{length, take, length-set}
 use Rattle.model.specs.Requests.{those}
+use Rattle.model.specs.Calls.{FrontOnly}
+use Rattle.model.proofs.Leaving.{front-more}
 use Rattle.network.specs.Ready.{graphOf}
 use Rattle.network.proofs.Reading.{ready-range}
-use Rattle.requests.specs.Answered.{Written}
-use Rattle.requests.proofs.Writing.{written-none, written-with, written-without}
+use Rattle.requests.proofs.Writing.{written-with, written-without}
 use Rattle.requests.proofs.write_friends.Statement.{statement}
 use Rattle.requests.proofs.write_friends.Tie as tie
-use Rattle.requests.proofs.write_friends.Reads as reads
-use Rattle.requests.proofs.write_friends.Lts as lts
-use Rattle.network.proofs.read.friends.Reads as friends-reads
 
 abbrev Inv-loop : tie.InvT-loop
-Inv-loop scheme c marks network u output₀ count₀ m₀ output count m = (m ≤ c .members) × (count ≤ m) × (length output ≡ length output₀) × Written (those (graphOf scheme network .friends u) m) count output₀ output
+Inv-loop scheme c marks network u output₀ count₀ m₀ output count m = (m ≤ c .members) × (count ≤ m) × (length output ≡ length output₀) × (take count output ≡ those (graphOf scheme network .friends u) m) × FrontOnly count output₀ output
 
 abbrev μ-loop : tie.MeasureT-loop
 μ-loop scheme c marks network u output₀ count₀ m₀ output count m = c .members - m
 
 loop-holds : tie.Need-loop-holds Inv-loop μ-loop
 unfolding those
-loop-holds c = (omega arith, omega arith, refl, written-none _)
+loop-holds c = (omega arith, omega arith, refl, refl, record { within = omega arith; behind = refl })
 
 friends-requires : tie.Need-friends-requires Inv-loop μ-loop
 friends-requires c κs = search needs
@@ -56,8 +54,12 @@ loop-again c =
       ⊎-elim (λ w. omega (arith, w)) (λ w. omega (arith, w)) (c .if2 .came),
       ⊎-elim (λ w. rw (w .1) (simp length-set (l .inv .2))) (λ w. rw (w .1) (l .inv .2)) (c .if2 .came),
       ⊎-elim
-          (λ w. rw (w .1, w .2) (written-with f (l .m) (l .inv .3) (sym e ∙ w .0 .taken) (omega arith)))
-          (λ w. rw (w .1, w .2) (written-without f (l .m) (l .inv .3) (sym e ∙ w .0 .left)))
+          (λ w. rw (w .1, w .2) (written-with f (l .m) (l .count) (l .output) (l .inv .3) (sym e ∙ w .0 .taken) (omega arith)))
+          (λ w. rw (w .1, w .2) (written-without f (l .m) (l .count) (l .output) (l .inv .3) (sym e ∙ w .0 .left)))
+          (c .if2 .came),
+      ⊎-elim
+          (λ w. rw (w .1, w .2) (front-more (l .m) (omega arith) (l .inv .4)))
+          (λ w. rw (w .1, w .2) (l .inv .4))
           (c .if2 .came),
     )
 
@@ -69,7 +71,7 @@ returns c =
     let s = c .before .before .before .before .before .before .args in
     let l = c .before .before .loop in
     let e : l .m ≡ s .c .members = omega arith in
-    rw (← e) (l .inv .3)
+    (rw (← e) (l .inv .3), l .inv .4)
 
 pub write-friends-spec : {M : Type 1} → statement M
 write-friends-spec =
