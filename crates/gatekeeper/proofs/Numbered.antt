@@ -32,12 +32,12 @@ module _ (b net : List ℕ) (v u : ℕ) (out : List ℕ) (count : ℕ) (after : 
   -- granted, and the count written
   pub list-granted : (x : Listed) {k count′ : ℕ} → ListCalled b net v u out x after → k ≡ numberOf x → k ≡ 0 → count′ ≡ countOf x
       → ListAnswered b net v u out count k after count′
-  list-granted (Friends n) h e z w = rw (e, w) (record { called = h .called; filled = h .filled; kept = λ unlike. absurd (unlike refl) })
-  list-granted (Refused zero) h e z w = rw (e, w) (record { called = h .called; filled = h .filled; kept = λ unlike. absurd (unlike refl) })
+  list-granted (Friends n) h e z w = rw (e, w) (record { left = h; kept = λ unlike. absurd (unlike refl) })
+  list-granted (Refused zero) h e z w = rw (e, w) (record { left = h; kept = λ unlike. absurd (unlike refl) })
   list-granted (Refused (suc m)) h e z w = absurd (omega arith)
 
   -- refused, and the count left alone
   pub list-refused : (x : Listed) {k : ℕ} → ListCalled b net v u out x after → k ≡ numberOf x → (k ≡ 0 → ⊥) → ListAnswered b net v u out count k after count
   list-refused (Friends n) h e unlike = absurd (unlike e)
   list-refused (Refused zero) h e unlike = absurd (unlike e)
-  list-refused (Refused (suc m)) h e unlike = rw e (record { called = h .called; filled = h .filled; kept = λ _. refl })
+  list-refused (Refused (suc m)) h e unlike = rw e (record { left = h; kept = λ _. refl })

@@ -84,7 +84,7 @@ pub extern "C" fn gatekeeper_list(
 ) -> u8
     ensures { λ k. ⌜ ListAnswered (now (scheme .entry)) (now (network .entry)) v u (now (output .entry)) (now (count .entry)) k (now (output .exit)) (now (count .exit)) ⌝ }
 {
-    let reply = requests::some_written(requests::list(scheme, network, v, u, output));
+    let reply = calls::list_reply(requests::list(scheme, network, v, u, output));
     let answer = reply.answer;
     if answer == 0 {
         *count = reply.count;

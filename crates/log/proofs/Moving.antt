@@ -1,31 +1,27 @@
 -- The place after an answer.
-use Prim.Native.Nat.{ℕ, _+_, _<_}
-use mathlib.Core.Path.{_≡_}
+use Prim.Native.Nat.{ℕ, _+_, _≤_}
+use mathlib.Core.Path.{_≡_, refl}
 use mathlib.Core.List.{List}
-use native.Mathlib.Omega.{arith}
 use lib.ListN.{length}
-use Rattle.model.specs.Log.{placeAfter}
+use Rattle.model.specs.Bytes.{two}
+use Rattle.model.proofs.Logging.{within}
+use Rattle.kinds.specs.Kinds.{requestOf}
+use Rattle.kinds.specs.declared.Request.{Request}
 use Rattle.log.specs.declared.Answer.{Answer}
-use Rattle.log.specs.declared.Answer.the-variants.{Event, Set, Find, List as ListOf, View, Refused, Ended}
-use Rattle.log.specs.Read.{outcome, Says, sizeOf}
+use Rattle.log.specs.declared.Answer.the-variants.{Asks, Refused, Ended}
+use Rattle.log.specs.Read.{Says, Read}
 
-module _ (log : List ℕ) (place : ℕ) where
-  -- a record lies within the log, so the place behind it is no greater than the log's length
-  pub in-range : (limit : ℕ) → length log < limit → place < limit → (answer : Answer) → Says log place answer → place + sizeOf answer < limit
-  in-range limit fits at (Event v u a) s = omega (arith, s 0 .1 .0 .0)
-  in-range limit fits at (Set u r p) s = omega (arith, s 0 .1 .0 .0)
-  in-range limit fits at (Find v u) s = omega (arith, s 0 .1 .0 .0)
-  in-range limit fits at (ListOf v u) s = omega (arith, s 0 .1 .0 .0)
-  in-range limit fits at (View v u o) s = omega (arith, s 0 .1 .0 .0)
-  in-range limit fits at Refused s = omega arith
-  in-range limit fits at Ended s = omega arith
+module _ (log : List ℕ) (place : ℕ) {answer : Answer} (s : Says log place answer) where
+  -- a request's record lies within the log
+  pub inside : {q : Request} → answer ≡ Asks q → place + 4 + two log place ≤ length log
+  inside {q} e = let h : Says log place (Asks q) = rw e at s in within log 0 place (requestOf q 0) (h 0 .1) .1
 
-  -- the body length of a record is that of its kind
-  pub moved : (answer : Answer) → Says log place answer → (lent : ℕ) → place + sizeOf answer ≡ placeAfter log place (outcome lent answer)
-  moved (Event v u a) s lent = omega (arith, s 0 .1 .0 .1)
-  moved (Set u r p) s lent = omega (arith, s 0 .1 .0 .1)
-  moved (Find v u) s lent = omega (arith, s 0 .1 .0 .1)
-  moved (ListOf v u) s lent = omega (arith, s 0 .1 .0 .1)
-  moved (View v u o) s lent = omega (arith, s 0 .1 .0 .1)
-  moved Refused s lent = omega arith
-  moved Ended s lent = omega arith
+  pub moved : {q : Request} {body : ℕ} → answer ≡ Asks q → body ≡ two log place → Read log place answer (place + 4 + body)
+  moved {q} {body} e m = record { says = s; moves = λ lent. rw (e, m) refl }
+
+  -- at the end, and after a 14
+  pub stays-refused : answer ≡ Refused → Read log place answer place
+  stays-refused e = record { says = s; moves = λ lent. rw e refl }
+
+  pub stays-ended : answer ≡ Ended → Read log place answer place
+  stays-ended e = record { says = s; moves = λ lent. rw e refl }

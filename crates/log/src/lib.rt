@@ -1,14 +1,11 @@
 // The log reader (document 01, "Next log record").
+use kinds::Request;
 ghost use mathlib.Core.Path.{_≡_};
-ghost use Rattle.log.specs.Read.{sizeOf, Says, Read};
+ghost use Rattle.log.specs.Read.{Says, Read};
 
 // What the log reader answers: the request of the next record, 14, or that the log has ended.
 pub enum Answer {
-    Event(usize, usize, usize),
-    Set(usize, usize, usize),
-    Find(usize, usize),
-    List(usize, usize),
-    View(usize, usize, usize),
+    Asks(Request),
     Refused,
     Ended,
 }
@@ -30,46 +27,31 @@ fn answer_at(log: &[u8], place: usize) -> Answer
         let v = records::two(log, place + 4);
         let u = records::two(log, place + 6);
         let a = records::wide(log[place + 8]);
-        return Answer::Event(v, u, a);
+        return Answer::Asks(Request::Event(v, u, a));
     }
     if records::record_at(log, place, 17, 4) {
         let u = records::two(log, place + 4);
         let r = records::wide(log[place + 6]);
         let p = records::wide(log[place + 7]);
-        return Answer::Set(u, r, p);
+        return Answer::Asks(Request::Set(u, r, p));
     }
     if records::record_at(log, place, 18, 4) {
         let v = records::two(log, place + 4);
         let u = records::two(log, place + 6);
-        return Answer::Find(v, u);
+        return Answer::Asks(Request::Find(v, u));
     }
     if records::record_at(log, place, 19, 4) {
         let v = records::two(log, place + 4);
         let u = records::two(log, place + 6);
-        return Answer::List(v, u);
+        return Answer::Asks(Request::List(v, u));
     }
     if records::record_at(log, place, 20, 5) {
         let v = records::two(log, place + 4);
         let u = records::two(log, place + 6);
         let o = records::wide(log[place + 8]);
-        return Answer::View(v, u, o);
+        return Answer::Asks(Request::View(v, u, o));
     }
     Answer::Refused
-}
-
-// How many bytes the reader moves: those of a request's record; at the end, and after a 14, none.
-fn size(answer: Answer) -> usize
-    ensures { λ r. ⌜ r ≡ sizeOf answer ⌝ }
-{
-    match answer {
-        Answer::Event(_, _, _) => 9,
-        Answer::Set(_, _, _) => 8,
-        Answer::Find(_, _) => 8,
-        Answer::List(_, _) => 8,
-        Answer::View(_, _, _) => 9,
-        Answer::Refused => 0,
-        Answer::Ended => 0,
-    }
 }
 
 // The next record at a place of the log, and the place afterwards.
@@ -77,10 +59,13 @@ pub fn read(log: &[u8], place: usize) -> Step
     ensures { λ r. ⌜ Read (now (log .entry)) place (r .answer) (r .place) ⌝ }
 {
     let answer = answer_at(log, place);
-    let after = place + size(answer);
-    Step {
-        answer,
-        place: after,
+    match answer {
+        Answer::Asks(_) => Step {
+            answer,
+            place: place + 4 + records::two(log, place),
+        },
+        Answer::Refused => Step { answer, place },
+        Answer::Ended => Step { answer, place },
     }
 }
 

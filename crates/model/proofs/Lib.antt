@@ -23,6 +23,7 @@ pub mod StandardRead
 pub mod Exemplified
 -- the claims
 pub mod Once
+pub mod Leaving
 pub mod Replayed
 pub mod Unseen
 pub mod Tracing

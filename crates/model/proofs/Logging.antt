@@ -1,5 +1,5 @@
 -- The next record of a log: there is one outcome, and no other; and the example logs, read.
-use Prim.Native.Nat.{ℕ, _+_}
+use Prim.Native.Nat.{ℕ, _+_, _<_, _≤_}
 use mathlib.Core.Path.{_≡_, refl, sym, ap, _∙_}
 use mathlib.Core.Bool.{Bool, true, false, cond, _&&_}
 use mathlib.Core.List.{List, [], _∷_}
@@ -33,6 +33,14 @@ module _ (log : List ℕ) (lent k : ℕ) where
 
   pub refuses : (Ended log k → ⊥) → NoRecord log k → NextAt log lent k (refused 14)
   refuses more none = (more, inl ((λ h. no-request none (h .0) (h .1)), refl), omega arith)
+
+  -- a record stands within the log
+  pub within : (q : Request) → RequestAt log lent k q → (k < placeAfter log k (request q)) × (placeAfter log k (request q) ≤ length log)
+  within (event v u a) h = (omega arith, omega (arith, h .0 .0, h .0 .1))
+  within (set-policy u r p) h = (omega arith, omega (arith, h .0 .0, h .0 .1))
+  within (find v u) h = (omega arith, omega (arith, h .0 .0, h .0 .1))
+  within (list v u places) h = (omega arith, omega (arith, h .0 .0, h .0 .1))
+  within (view v u o) h = (omega arith, omega (arith, h .0 .0, h .0 .1))
 
   -- the request of a record of this kind
   abbrev ofKind : ℕ → Request

@@ -1,8 +1,8 @@
 -- What each call promises of the bytes that it is lent (document 01, "The calls").
-use Prim.Native.Nat.{ℕ, min, max}
+use Prim.Native.Nat.{ℕ, _≤_, min, max}
 use mathlib.Core.Path.{_≡_}
 use mathlib.Core.List.{List, [], _∷_, _++_}
-use lib.ListN.{length, drop, set}
+use lib.ListN.{length, take, drop, set}
 use Rattle.model.specs.Answers.{Requirement, Answers}
 use Rattle.model.specs.Scheme.{Scheme}
 use Rattle.model.specs.SchemeBytes.{schemeOf, schemeNeeds}
@@ -41,7 +41,12 @@ pub record Called (b net : List ℕ) (t : Turn) (after : List ℕ) : Type 0 wher
   pub wrote : t .written ≡ granted (t .answer) (writes (schemeOf b) (held (schemeOf b) net) (t .request)) []
   pub bytes : after ≡ granted (t .answer) (puts (schemeOf b) net (t .request)) net
 
--- what a list leaves in the lent output: its count, what it wrote at the front, and the places behind as they were
-pub record Filled (t : Turn) (count : ℕ) (out after : List ℕ) : Type 0 where
-  pub counted : count ≡ length (t .written)
-  pub filled : after ≡ t .written ++ drop (length (t .written)) out
+-- only so many places at the front of the output were written
+pub record FrontOnly (count : ℕ) (out after : List ℕ) : Type 0 where
+  pub within : count ≤ length after
+  pub behind : drop count after ≡ drop count out
+
+-- what a call leaves: its answer, the list that it wrote at the front of the output, as long as counted, and the network
+pub record Left (b net : List ℕ) (q : Request) (out : List ℕ) (answer count : ℕ) (out' net' : List ℕ) : Type 0 where
+  pub called : Called b net (record { request = q; answer = answer; written = take count out' }) net'
+  pub front : FrontOnly count out out'

@@ -8,7 +8,7 @@ use Rattle.model.specs.Answers.{Requirement, Answers}
 use Rattle.model.specs.SchemeBytes.{schemeOf, schemeNeeds}
 use Rattle.model.specs.Network.{size}
 use Rattle.model.specs.Requests.{Request}
-use Rattle.model.specs.Calls.{Fresh, Called}
+use Rattle.model.specs.Calls.{Fresh, Left}
 use Rattle.model.specs.Log.{ended, refused, request, NextAt, placeAfter}
 use Rattle.replay.specs.declared.Start.{Start}
 use Rattle.replay.specs.declared.Start.the-variants.{Fresh as FreshOf, Refused}
@@ -37,16 +37,14 @@ startNumber (Refused number) = number
 abbrev pub Overlong : List ℕ → Start → Type 0
 Overlong b start = 530 < length b → (rest : List ℕ) → Answers (schemeNeeds (b ++ rest)) (startNumber start)
 
--- the line of the record at a place: the request was called, its list stands at the front of the output, the rest as it was, and
--- the next place is behind the record; a 14, which is the last line; or no line, at the end of the log
+-- the line of the record at a place: its request was called, and the next place is behind the record; a 14, which is the last
+-- line; or no line, at the end of the log
 abbrev pub Lined : List ℕ → List ℕ → ℕ → List ℕ → List ℕ → Line → List ℕ → List ℕ → Type 0
 Lined b log k net out (Next answer count place) after left =
     (q : Request)
     × NextAt log (length out) k (request q)
     × (place ≡ placeAfter log k (request q))
-    × Called b net (record { request = q; answer = answer; written = take count left }) after
-    × (count ≤ length left)
-    × (drop count left ≡ drop count out)
+    × Left b net q out answer count left after
 Lined b log k net out (Last number) after left = (number ≡ 14) × NextAt log (length out) k (refused 14) × (after ≡ net) × (left ≡ out)
 Lined b log k net out End after left = NextAt log (length out) k ended × (after ≡ net) × (left ≡ out)
 

@@ -1,6 +1,6 @@
 // What the log program decides, and its lines (document 01, "Log program").
+use calls::Reply;
 use log::Answer;
-use requests::Reply;
 use scheme::Reading;
 ghost use mathlib.Core.Path.{_≡_};
 ghost use Prim.Native.Nat.{_<_, _≤_};
@@ -54,36 +54,7 @@ pub fn play(scheme: &[u8], log: &[u8], place: usize, network: &mut [u8], output:
     let after = step.place;
     let answer = step.answer;
     match answer {
-        Answer::Event(v, u, a) => {
-            next(
-                requests::nothing_written(requests::event(scheme, network, v, u, a)),
-                after,
-            )
-        }
-        Answer::Set(u, r, p) => {
-            next(
-                requests::nothing_written(requests::set(scheme, network, u, r, p)),
-                after,
-            )
-        }
-        Answer::Find(v, u) => {
-            next(
-                requests::nothing_written(requests::find(scheme, network, v, u)),
-                after,
-            )
-        }
-        Answer::List(v, u) => {
-            next(
-                requests::some_written(requests::list(scheme, network, v, u, output)),
-                after,
-            )
-        }
-        Answer::View(v, u, o) => {
-            next(
-                requests::nothing_written(requests::view(scheme, network, v, u, o)),
-                after,
-            )
-        }
+        Answer::Asks(request) => next(calls::call(scheme, network, request, output), after),
         Answer::Refused => Line::Last(14),
         Answer::Ended => Line::End,
     }

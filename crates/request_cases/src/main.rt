@@ -5,21 +5,21 @@ ghost use Prim.Native.Nat.{_≤_};
 ghost use lib.ListN.{length};
 use cases::Number;
 use cases::Part;
+use kinds::Request;
 use libc::STDIN_FILENO;
-use requests::Listed;
 
 // What reading a request finds: its kind and its arguments, or the end of the input.
-enum Request {
+enum Numbers {
     Of(usize, usize, usize, usize),
     End,
 }
 
-fn read_request() -> Request {
+fn read_numbers() -> Numbers {
     let mut bytes = [0u8; 8];
     if io::read_full(STDIN_FILENO, &mut bytes) < 8 {
-        return Request::End;
+        return Numbers::End;
     }
-    Request::Of(
+    Numbers::Of(
         records::two(&bytes, 0),
         records::two(&bytes, 2),
         records::two(&bytes, 4),
@@ -38,18 +38,32 @@ fn fill(output: &mut [u16])
     }
 }
 
+// The request of a kind and its arguments, or none.
+enum Decoded {
+    Asks(Request),
+    Nothing,
+}
+
+fn decode(kind: usize, x: usize, y: usize, z: usize) -> Decoded {
+    match kind {
+        16 => Decoded::Asks(Request::Event(x, y, z)),
+        17 => Decoded::Asks(Request::Set(x, y, z)),
+        18 => Decoded::Asks(Request::Find(x, y)),
+        19 => Decoded::Asks(Request::List(x, y)),
+        20 => Decoded::Asks(Request::View(x, y, z)),
+        _ => Decoded::Nothing,
+    }
+}
+
 // A list's answer, where granted the count, and behind a bar every place of the output.
-fn run_list(scheme: &[u8], network: &[u8], v: usize, u: usize, output: &mut [u16])
+fn run_list(scheme: &[u8], network: &mut [u8], request: Request, output: &mut [u16])
     requires { ⌜ length (now output) ≤ 1000 ⌝ }
 {
     fill(output);
-    let listed = requests::list(scheme, network, v, u, output);
-    match listed {
-        Listed::Friends(count) => {
-            printing::answer(0);
-            printing::next(count as u64);
-        }
-        Listed::Refused(answer) => printing::answer(answer),
+    let reply = calls::call(scheme, network, request, output);
+    printing::answer(reply.answer);
+    if reply.answer == 0 {
+        printing::next(reply.count as u64);
     }
     printing::text(b" |");
     printing::list(output);
@@ -67,17 +81,16 @@ fn run_request(
 )
     requires { ⌜ length (now output) ≤ 1000 ⌝ }
 {
-    match kind {
-        16 => printing::answer(requests::event(scheme, network, x, y, z)),
-        17 => printing::answer(requests::set(scheme, network, x, y, z)),
-        18 => printing::answer(requests::find(scheme, network, x, y)),
-        19 => {
-            if z <= output.len() {
-                run_list(scheme, network, x, y, &mut output[..z]);
-            }
-        }
-        20 => printing::answer(requests::view(scheme, network, x, y, z)),
-        _ => (),
+    let Decoded::Asks(request) = decode(kind, x, y, z) else {
+        return;
+    };
+    if kind != 19 {
+        let reply = calls::call(scheme, network, request, output);
+        printing::answer(reply.answer);
+        return;
+    }
+    if z <= output.len() {
+        run_list(scheme, network, request, &mut output[..z]);
     }
 }
 
@@ -85,7 +98,7 @@ fn run_request(
 fn run_next(number: u64, place: u64, scheme: &[u8], network: &mut [u8], output: &mut [u16]) -> bool
     requires { ⌜ length (now output) ≤ 1000 ⌝ }
 {
-    let Request::Of(kind, x, y, z) = read_request() else {
+    let Numbers::Of(kind, x, y, z) = read_numbers() else {
         return false;
     };
     printing::number(number);

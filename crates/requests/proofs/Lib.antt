@@ -6,4 +6,3 @@ pub mod ViewAnswers
 pub mod ListAnswers
 pub mod NextState
 pub mod ThoseBelow
-pub mod OutputLeft

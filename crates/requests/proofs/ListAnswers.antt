@@ -6,12 +6,11 @@ use mathlib.Core.List.{List, [], _∷_}
 use mathlib.Core.Logic.{inl, inr}
 use native.Mathlib.Omega.{arith}
 use lib.ListN.{length, take}
-use lib.Seq.{take-append-seam}
 use Rattle.model.specs.Answers.{Requirement, Answers}
 use Rattle.model.specs.Finding.{Finds, Allows}
 use Rattle.model.specs.SchemeBytes.{schemeOf}
 use Rattle.model.specs.Requests.{list, those}
-use Rattle.model.specs.Calls.{callNeeds}
+use Rattle.model.specs.Calls.{callNeeds, FrontOnly}
 use Rattle.scheme.specs.declared.Reading.the-variants.{Accepted, Refused as OpenRefused}
 use Rattle.tables.specs.declared.Counts.{Counts}
 use Rattle.network.specs.Ready.{worldOf, graphOf}
@@ -19,7 +18,7 @@ use Rattle.checks.specs.Judged.{judgeNeeds}
 use Rattle.checks.specs.Opened.{Opened}
 use Rattle.checks.proofs.CallAnswers.{refusal-stands, later-answers, past-10}
 use Rattle.requests.specs.declared.Listed.the-variants.{Friends, Refused}
-use Rattle.requests.specs.Answered.{Written, ListCalled}
+use Rattle.requests.specs.Answered.{ListCalled}
 
 -- what list asks beyond 6
 abbrev listLater : List ℕ → List ℕ → ℕ → ℕ → ℕ → List Requirement
@@ -36,7 +35,7 @@ module _ (b net : List ℕ) (v u places k : ℕ) {c : Counts} (h : Opened b net 
 module _ {b net : List ℕ} {v u : ℕ} {out : List ℕ} where
   nothing-written : (k : ℕ) → 1 ≤ k → Answers (callNeeds b net (list v u (length out))) k → ListCalled b net v u out (Refused k) out
   nothing-written zero l a = absurd (omega arith)
-  nothing-written (suc k) l a = record { called = record { answered = a; wrote = refl; bytes = refl }; filled = record { counted = refl; filled = refl } }
+  nothing-written (suc k) l a = record { called = record { answered = a; wrote = refl; bytes = refl }; front = record { within = omega arith; behind = refl } }
 
   pub list-refused : {k : ℕ} → Opened b net v u (OpenRefused k) → ListCalled b net v u out (Refused k) out
   list-refused {k} h = nothing-written k (h .1) (refusal-stands b net v u (listLater b net v u (length out)) k h)
@@ -49,16 +48,13 @@ module _ {b net : List ℕ} {v u : ℕ} {out : List ℕ} where
     list-judged {k} p l a = nothing-written k p (judged b net v u (length out) k h l a)
 
     pub list-0 : {k count : ℕ} {after : List ℕ} → k ≡ 0 → c .members ≤ length out → Answers (judgeNeeds (worldOf b net) v u 1 true) k
-        → Written (those (graphOf b net .friends u) (c .members)) count out after
+        → (take count after ≡ those (graphOf b net .friends u) (c .members)) × FrontOnly count out after
         → ListCalled b net v u out (Friends count) after
-    list-0 {k} {count} {after} z l a w = record {
+    list-0 z l a (w, f) = record {
       called = record {
         answered = judged b net v u (length out) 0 h l (rw z at a);
-        wrote = front ∙ ap (those (graphOf b net .friends u)) (h .0 .counts .members);
+        wrote = w ∙ ap (those (graphOf b net .friends u)) (h .0 .counts .members);
         bytes = refl;
       };
-      filled = record { counted = w .counted ∙ sym (ap length front); filled = w .filled ∙ rw front };
+      front = f;
     }
-      where
-        front : take count after ≡ those (graphOf b net .friends u) (c .members)
-        front = rw (w .counted, w .filled) (take-append-seam (those (graphOf b net .friends u) (c .members)) _)

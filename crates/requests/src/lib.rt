@@ -4,15 +4,15 @@ use tables::Counts;
 use tables::Resource;
 ghost use mathlib.Core.Path.{_≡_};
 ghost use Prim.Native.Nat.{_+_, _<_, _≤_};
-ghost use lib.ListN.{length};
+ghost use lib.ListN.{length, take};
 ghost use Rattle.model.specs.Decides.{Decides};
 ghost use Rattle.model.specs.Network.{held};
 ghost use Rattle.model.specs.Requests.{event as eventRequest, set-policy, next, find as findRequest, view as viewRequest, those};
 ghost use Rattle.model.specs.SchemeBytes.{schemeOf};
-ghost use Rattle.model.specs.Calls.{Called};
+ghost use Rattle.model.specs.Calls.{Called, FrontOnly};
 ghost use Rattle.tables.specs.Read.{InRange};
 ghost use Rattle.network.specs.Ready.{Ready, graphOf};
-ghost use Rattle.requests.specs.Answered.{answered, numberOf, countOf, Written, ListCalled};
+ghost use Rattle.requests.specs.Answered.{answered, ListCalled};
 
 // A list's answer: how many friends it wrote, or the refusal's number.
 pub enum Listed {
@@ -61,7 +61,7 @@ fn write_friends(
     output: &mut [u16],
 ) -> usize
     requires { ⌜ Ready (now scheme) c (now network) × (u < c .members) × (c .members ≤ length (now output)) ⌝ }
-    ensures { λ r. ⌜ Written (those (graphOf (now (scheme .entry)) (now (network .entry)) .friends u) (c .members)) r (now (output .entry)) (now (output .exit)) ⌝ }
+    ensures { λ r. ⌜ (take r (now (output .exit)) ≡ those (graphOf (now (scheme .entry)) (now (network .entry)) .friends u) (c .members)) × FrontOnly r (now (output .entry)) (now (output .exit)) ⌝ }
 {
     let mut count: usize = 0;
     let mut m: usize = 0;
@@ -152,36 +152,4 @@ pub fn event(scheme: &[u8], network: &mut [u8], v: usize, u: usize, a: usize) ->
     }
     network::write::state(scheme, c, network, v, u, q);
     0
-}
-
-// A call's answer, and how many it wrote.
-pub struct Reply {
-    pub answer: u8,
-    pub count: usize,
-}
-
-// The reply of a call that writes no list.
-pub fn nothing_written(number: u8) -> Reply
-    ensures { λ r. ⌜ (r .answer ≡ number) × (r .count ≡ 0) ⌝ }
-{
-    Reply {
-        answer: number,
-        count: 0,
-    }
-}
-
-// The reply of a list.
-pub fn some_written(listed: Listed) -> Reply
-    ensures { λ r. ⌜ (r .answer ≡ numberOf listed) × (r .count ≡ countOf listed) ⌝ }
-{
-    match listed {
-        Listed::Friends(count) => Reply {
-            answer: 0,
-            count: count,
-        },
-        Listed::Refused(number) => Reply {
-            answer: number,
-            count: 0,
-        },
-    }
 }

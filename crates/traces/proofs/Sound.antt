@@ -3,7 +3,8 @@ use Prim.Native.Nat.{ℕ}
 use mathlib.Core.List.{List}
 use Rattle.model.specs.Requests.{Request, event, set-policy, find, list, view, Turn}
 use Rattle.model.specs.Calls.{Called}
-use Rattle.traces.specs.Cite.{CallOf, CallMade, event-learnt, set-learnt}
+use Rattle.traces.specs.Cite.{CallOf, CallMade}
+use Rattle.traces.proofs.Guards.{event-learnt, set-learnt}
 
 abbrev turn : Request → ℕ → List ℕ → Turn
 turn q answer written = record { request = q; answer = answer; written = written }

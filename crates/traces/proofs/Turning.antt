@@ -4,82 +4,51 @@ use mathlib.Core.Path.{_≡_, refl, sym, _∙_, ap}
 use mathlib.Core.List.{List, [], _∷_, _++_}
 use native.Mathlib.Omega.{arith}
 use native.Mathlib.Numerals.{add-one}
-use lib.ListN.{length, getD, take, drop, set}
-use lib.Seq.{take-suc-set, drop-drop, drop-set-lt, getD-set-same, getD-set-other}
-use denote.Ref.{RefT}
-use Rattle.model.specs.Requests.{Request, event, set-policy, find, view, Turn}
-use Rattle.model.specs.Calls.{Called}
+use lib.ListN.{length, getD, take, drop, set, length-drop}
+use lib.Seq.{length-take-le, take-suc-set, drop-set-lt, getD-set-same, getD-set-other}
+use Rattle.model.specs.Requests.{Request, view, Turn}
+use Rattle.model.specs.Calls.{Left}
 use Rattle.model.specs.Machine.{requests}
 use Rattle.model.specs.Traces.{Trace, turns, lastBytes, Happens}
 use Rattle.model.proofs.Tracing.{every-trace, every-trace-from}
-use Rattle.requests.specs.Answered.{answered, numberOf, countOf, ListCalled}
-use Rattle.requests.specs.declared.Listed.{Listed}
-use Rattle.requests.proofs.OutputLeft.{list-left}
-use Rattle.traces.specs.Cite.{CallMade}
-use Rattle.traces.specs.Ran.{requestOf, requestAt, asked, rowOf, listsOf, answersOf, writtenOf, Stepped, Turned, Kept, Ran}
+use Rattle.model.proofs.Leaving.{drop-more}
+use Rattle.kinds.specs.Kinds.{requestOf}
+use Rattle.kinds.specs.declared.Request.{Request as Asked}
+use Rattle.traces.specs.Cite.{CallOf, CallMade}
+use Rattle.traces.specs.Ran.{decoded, requestAt, asked, rowOf, listsOf, answersOf, writtenOf, Turned, Kept, Ran}
+use Rattle.traces.proofs.Made.{made}
 use Rattle.traces.proofs.Sound.{sound}
 use Rattle.traces.proofs.Refusing.{all-refused}
 use Rattle.traces.proofs.Rows.{row-written, front-kept, behind-kept, lists-written, place-kept}
 
-ref : List ℕ → RefT (List ℕ)
-ref l = record { ptr = (0, 0); name = 0; now = l }
+-- any other number is a view
+pub decoded-view : (x y z n : ℕ) → (n ≡ 0 → ⊥) → (n ≡ 1 → ⊥) → (n ≡ 2 → ⊥) → (n ≡ 3 → ⊥) → decoded n x y z ≡ view x y z
+decoded-view x y z zero p q r s = absurd (p refl)
+decoded-view x y z (suc zero) p q r s = absurd (q refl)
+decoded-view x y z (suc (suc zero)) p q r s = absurd (r refl)
+decoded-view x y z (suc (suc (suc zero))) p q r s = absurd (s refl)
+decoded-view x y z (suc (suc (suc (suc n)))) p q r s = refl
 
-module _ (b net : List ℕ) (kind x y z k count : ℕ) (row left : List ℕ) where
-  pub stepped-event : (after : List ℕ) (answer : ℕ) → count ≡ 0 → left ≡ row → kind ≡ 0 → k ≡ answer → Called b net (answered (event x y z) answer) after
-      → Stepped b net kind x y z row k count left after
-  unfolding ref
-  stepped-event after answer none same e ek c = rw (e, ek, none, same) ((([], ([], tt)), ref b, ref net, refl, refl, refl, c), omega arith, refl)
-
-  pub stepped-set : (after : List ℕ) (answer : ℕ) → count ≡ 0 → left ≡ row → kind ≡ 1 → k ≡ answer → Called b net (answered (set-policy x y z) answer) after
-      → Stepped b net kind x y z row k count left after
-  unfolding ref
-  stepped-set after answer none same e ek c = rw (e, ek, none, same) ((([], ([], tt)), ref b, ref net, refl, refl, refl, c), omega arith, refl)
-
-  pub stepped-find : (answer : ℕ) → count ≡ 0 → left ≡ row → kind ≡ 2 → k ≡ answer → Called b net (answered (find x y) answer) net
-      → Stepped b net kind x y z row k count left net
-  unfolding ref
-  stepped-find answer none same e ek c = rw (e, ek, none, same) ((([], ([], tt)), ref b, ref net, refl, refl, refl, (refl, c)), omega arith, refl)
-
-  pub stepped-list : (told : Listed) → length row ≡ min z 256 → k ≡ numberOf told → count ≡ countOf told → kind ≡ 3
-      → ListCalled b net x y row told left
-      → Stepped b net kind x y z row k count left net
-  unfolding ref
-  stepped-list told places ek ec e c =
-      let (few, stays) = list-left b net x y row told left c in
-      rw (e, ek, ec) (
-        (([], ([], ([], tt))), ref b, ref net, ref row, told, left, refl, refl, places, refl, refl, (refl, c)),
-        few,
-        stays,
-      )
-
-  view-of : (n : ℕ) → (n ≡ 0 → ⊥) → (n ≡ 1 → ⊥) → (n ≡ 2 → ⊥) → (n ≡ 3 → ⊥) → requestOf n x y z ≡ view x y z
-  view-of zero p q r s = absurd (p refl)
-  view-of (suc zero) p q r s = absurd (q refl)
-  view-of (suc (suc zero)) p q r s = absurd (r refl)
-  view-of (suc (suc (suc zero))) p q r s = absurd (s refl)
-  view-of (suc (suc (suc (suc n)))) p q r s = refl
-
-  pub stepped-view : (answer : ℕ) → count ≡ 0 → left ≡ row → (kind ≡ 0 → ⊥) → (kind ≡ 1 → ⊥) → (kind ≡ 2 → ⊥) → (kind ≡ 3 → ⊥) → k ≡ answer
-      → Called b net (answered (view x y z) answer) net
-      → Stepped b net kind x y z row k count left net
-  unfolding ref
-  stepped-view answer none same p q r s ek c =
-      rw (view-of kind p q r s, ek, none, same) ((([], ([], tt)), ref b, ref net, refl, refl, refl, (refl, c)), omega arith, refl)
-
-pub turned : (b net encoded : List ℕ) (n : ℕ) (lists : List ℕ) (k count : ℕ) (after row : List ℕ) (size x y z : ℕ)
+-- the call of request n, on its part of the places
+pub turned : (b net encoded : List ℕ) (n : ℕ) (lists : List ℕ) (k count : ℕ) (after row : List ℕ) (size x y z : ℕ) (q : Asked)
     → x ≡ getD encoded (4 * n + 1) 0
     → y ≡ getD encoded (4 * n + 2) 0
     → z ≡ getD encoded (4 * n + 3) 0
-    → 256 * n ≤ length lists
+    → requestOf q (min z 256) ≡ decoded (getD encoded (4 * n) 0) x y z
+    → 256 * n + 256 ≤ length lists
+    → size ≡ min z 256
     → length row ≡ length (take size (drop (256 * n) lists))
-    → length row ≤ 256
-    → Stepped b net (getD encoded (4 * n) 0) x y z (take size (drop (256 * n) lists)) k count row after
+    → Left b net (requestOf q (length (take size (drop (256 * n) lists)))) (take size (drop (256 * n) lists)) k count row after
     → Turned b net encoded n lists k count (take (256 * n) lists ++ (row ++ drop size (drop (256 * n) lists))) after
-turned b net encoded n lists k count after row size x y z ex ey ez inside same d (h, short, kept) = (
-  rw (row-written lists row (256 * n) size count inside short d, ← ex, ← ey, ← ez) h,
-  front-kept lists row (256 * n) size count inside short,
-  behind-kept lists row (256 * n) size count inside short same kept,
-)
+turned b net encoded n lists k count after row size x y z q ex ey ez eq room few same l =
+    let out : List ℕ = take size (drop (256 * n) lists) in
+    let inside : 256 * n ≤ length lists = omega arith in
+    let lent : length out ≡ min z 256 = length-take-le size (drop (256 * n) lists) (omega (arith, length-drop (256 * n) lists)) ∙ few in
+    let c : CallOf b net (requestAt encoded n) k (take count row) after = rw (← ex, ← ey, ← ez, ← eq, ← lent) (made b net out q k count row after l) in (
+      rw (row-written lists row (256 * n) size count inside (l .front .within) (omega arith)) c,
+      front-kept lists row (256 * n) size count inside (l .front .within),
+      behind-kept lists row (256 * n) size count inside (l .front .within) same (l .front .behind),
+    )
 
 happens-then : (b net : List ℕ) (ts : Trace) (t : Turn) (after : List ℕ) → Happens CallMade b net ts → CallMade b (lastBytes net ts) t after
     → Happens CallMade b net (ts ++ (t, after) ∷ [])
@@ -101,9 +70,6 @@ answers-then ((t', left) ∷ ts) t after = ap {B = List ℕ} (λ l. t' .answer �
 written-then : (ts : Trace) (t : Turn) (after : List ℕ) → writtenOf (turns (ts ++ (t, after) ∷ [])) ≡ writtenOf (turns ts) ++ t .written ∷ []
 written-then [] t after = refl
 written-then ((t', left) ∷ ts) t after = ap {B = List (List ℕ)} (λ l. t' .written ∷ l) (written-then ts t after)
-
-drop-more : (l l' : List ℕ) (n : ℕ) → drop n l' ≡ drop n l → drop (n + 1) l' ≡ drop (n + 1) l
-drop-more l l' n e = sym (drop-drop 1 n l') ∙ ap (λ (k : List ℕ). drop 1 k) e ∙ drop-drop 1 n l
 
 -- what n turns have done
 pub record SoFar (b before encoded : List ℕ) (n : ℕ) (answers counts lists net : List ℕ) : Type 0 where

@@ -13,17 +13,17 @@ use Rattle.model.specs.Traces.{Trace, turns, lastBytes, Matches, Happens}
 use Rattle.checks.specs.Opened.{openNeeds}
 use Rattle.traces.specs.Cite.{CallOf, CallMade}
 
--- 0 event, 1 set, 2 find, 3 list, which is lent z of its 256 places, all where z is more; any other number view
-abbrev pub requestOf : ℕ → ℕ → ℕ → ℕ → Request
-requestOf zero x y z = event x y z
-requestOf (suc zero) x y z = set-policy x y z
-requestOf (suc (suc zero)) x y z = find x y
-requestOf (suc (suc (suc zero))) x y z = list x y (min z 256)
-requestOf (suc (suc (suc (suc k)))) x y z = view x y z
+-- the kinds: 0 event, 1 set, 2 find, 3 list, which is lent z of its 256 places, all where z is more; any other number view
+abbrev pub decoded : ℕ → ℕ → ℕ → ℕ → Request
+decoded zero x y z = event x y z
+decoded (suc zero) x y z = set-policy x y z
+decoded (suc (suc zero)) x y z = find x y
+decoded (suc (suc (suc zero))) x y z = list x y (min z 256)
+decoded (suc (suc (suc (suc k)))) x y z = view x y z
 
 -- request n
 abbrev pub requestAt : List ℕ → ℕ → Request
-requestAt l n = requestOf (getD l (4 * n) 0) (getD l (4 * n + 1) 0) (getD l (4 * n + 2) 0) (getD l (4 * n + 3) 0)
+requestAt l n = decoded (getD l (4 * n) 0) (getD l (4 * n + 1) 0) (getD l (4 * n + 2) 0) (getD l (4 * n + 3) 0)
 
 -- the first n requests
 unfoldable pub asked : List ℕ → ℕ → List Request
@@ -46,13 +46,6 @@ answersOf (t ∷ ts) = t .answer ∷ answersOf ts
 abbrev pub writtenOf : List Turn → List (List ℕ)
 writtenOf [] = []
 writtenOf (t ∷ ts) = t .written ∷ writtenOf ts
-
--- one call: its answer, a list of as many as counted at the front of the row, and what stood behind it
-abbrev pub Stepped : List ℕ → List ℕ → ℕ → ℕ → ℕ → ℕ → List ℕ → ℕ → ℕ → List ℕ → List ℕ → Type 0
-Stepped b net kind x y z row answer count left after =
-    CallOf b net (requestOf kind x y z) answer (take count left) after
-    × (count ≤ length left)
-    × (drop count left ≡ drop count row)
 
 -- request n: its list stands at the front of the nth places, and all other places are as they were
 abbrev pub Turned : List ℕ → List ℕ → List ℕ → ℕ → List ℕ → ℕ → ℕ → List ℕ → List ℕ → Type 0

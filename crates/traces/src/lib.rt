@@ -1,12 +1,14 @@
 // The claims about every list of calls, and a run of one.
-use requests::Reply;
+use calls::Reply;
+use kinds::Request;
 ghost use mathlib.Core.Path.{_≡_};
 ghost use Prim.Native.Nat.{min, _+_, _*_, _≤_};
 ghost use lib.ListN.{length};
 ghost use Rattle.model.specs.Claims.{FromFresh, FromValid, EveryTrace, RunsReplayed, ViewGranted, ItemsUnseen, OneAnswer};
 ghost use Rattle.model.specs.Session.{SixteenLines};
+ghost use Rattle.kinds.specs.Kinds.{requestOf};
 ghost use Rattle.traces.specs.Cite.{CallMade};
-ghost use Rattle.traces.specs.Ran.{Stepped, Turned, fitting, Ran, Kept};
+ghost use Rattle.traces.specs.Ran.{decoded, Turned, fitting, Ran, Kept};
 
 // Each claim is a contract of a function that does nothing, so that none can go missing: four from a fresh network, and the same
 // from every network that passes 5.
@@ -23,32 +25,17 @@ pub fn claims()
     ensures sixteen_lines { λ r. ⌜ SixteenLines ⌝ }
 {}
 
-// One request.
-fn step(
-    scheme: &[u8],
-    network: &mut [u8],
-    kind: u16,
-    x: usize,
-    y: usize,
-    z: usize,
-    row: &mut [u16],
-) -> Reply
-    requires { ⌜ length (now row) ≡ min z 256 ⌝ }
-    ensures { λ r. ⌜ Stepped (now (scheme .entry)) (now (network .entry)) kind x y z (now (row .entry)) (r .answer) (r .count) (now (row .exit)) (now (network .exit)) ⌝ }
+// The request of a kind and three more numbers.
+fn decode(kind: u16, x: usize, y: usize, z: usize) -> Request
+    ensures { λ r. ⌜ requestOf r (min z 256) ≡ decoded kind x y z ⌝ }
 {
-    if kind == 0 {
-        return requests::nothing_written(requests::event(scheme, network, x, y, z));
+    match kind {
+        0 => Request::Event(x, y, z),
+        1 => Request::Set(x, y, z),
+        2 => Request::Find(x, y),
+        3 => Request::List(x, y),
+        _ => Request::View(x, y, z),
     }
-    if kind == 1 {
-        return requests::nothing_written(requests::set(scheme, network, x, y, z));
-    }
-    if kind == 2 {
-        return requests::nothing_written(requests::find(scheme, network, x, y));
-    }
-    if kind == 3 {
-        return requests::some_written(requests::list(scheme, network, x, y, row));
-    }
-    requests::nothing_written(requests::view(scheme, network, x, y, z))
 }
 
 fn wide(x: u16) -> usize
@@ -75,9 +62,10 @@ fn turn(scheme: &[u8], network: &mut [u8], encoded: &[u16], n: usize, lists: &mu
     let x = wide(encoded[4 * n + 1]);
     let y = wide(encoded[4 * n + 2]);
     let z = wide(encoded[4 * n + 3]);
+    let request = decode(kind, x, y, z);
     let start = 256 * n;
     let end = start + least(z, 256);
-    step(scheme, network, kind, x, y, z, &mut lists[start..end])
+    calls::call(scheme, network, request, &mut lists[start..end])
 }
 
 // How many requests there is room for: an answer, a count and 256 places for each.

@@ -57,7 +57,7 @@ returns : tie.Need-returns Inv-loop μ-loop
 returns c =
     let l = c .before .before .loop in
     let e : l .m ≡ c .before .before .before .before .before .before .args .c .members = omega arith in
-    rw (← e) (l .inv .1 .written)
+    (rw (← e) (l .inv .1 .written), l .inv .1 .front)
 
 pub write-friends-spec : {M : Type 1} → statement M
 write-friends-spec =

@@ -1,7 +1,6 @@
 use Prim.Native.Nat.{_+_, _-_, _*_}
-use denote.Ref.{now}
-use mathlib.Core.Path.{refl}
 use native.Mathlib.Omega.{arith}
+use denote.Ref.{now}
 use Rattle.traces.proofs.Turning.{turned}
 use borrow.Author.Needs.{needs}
 use Rattle.traces.proofs.turn.Statement.{statement}
@@ -61,6 +60,9 @@ shared-slice-read-wide-3 c = search needs
 wide-requires-3 : tie.Need-wide-requires-3
 wide-requires-3 c κs = search needs
 
+decode-requires : tie.Need-decode-requires
+decode-requires c κs = search needs
+
 mul-start : tie.Need-mul-start
 mul-start c = search needs
 
@@ -70,20 +72,20 @@ least-requires c κs = search needs
 add-end : tie.Need-add-end
 add-end c = search needs
 
-mul-step : tie.Need-mul-step
-mul-step c = search needs
+mul-call : tie.Need-mul-call
+mul-call c = search needs
 
-sub-step : tie.Need-sub-step
-sub-step c = search needs
+sub-call : tie.Need-sub-call
+sub-call c = search needs
 
-part-step-start : tie.Need-part-step-start
-part-step-start c = search needs
+part-call-start : tie.Need-part-call-start
+part-call-start c = search needs
 
-part-step-end : tie.Need-part-step-end
-part-step-end c = search needs
+part-call-end : tie.Need-part-call-end
+part-call-end c = search needs
 
-step-requires : tie.Need-step-requires
-step-requires c κs = search needs
+call-requires : tie.Need-call-requires
+call-requires c κs = search needs
 
 same-length : tie.Need-same-length
 same-length c = search needs
@@ -93,9 +95,10 @@ same-length-2 c = search needs
 
 returns : tie.Need-returns
 returns c =
-    let a = c .before .before .before .before .before .before .before .before .before .before .before .before .before .before .before .before .before .before .before .args in
-    let s = c .before .before .before .before .step in
-    turned (now (a .scheme)) (now (a .network)) (now (a .encoded)) (a .n) (now (a .lists)) _ _ _ (s .last .1 .1 .1 .1 .1 .1 .0) (256 * a .n + c .before .before .before .before .before .before .before .least .result - 256 * a .n) _ _ _ (c .before .before .before .before .before .before .before .before .before .before .before .before .wide .ensures) (c .before .before .before .before .before .before .before .before .before .before .wide2 .ensures) (c .before .before .before .before .before .before .before .before .wide3 .ensures) (omega arith) (s .kept .1 .1 .1 .1 .1 .1 .0) (omega (arith, s .kept .1 .1 .1 .1 .1 .1 .0)) (s .ensures)
+    let a = c .before .before .before .before .before .before .before .before .before .before .before .before .before .before .before .before .before .before .before .before .args in
+    let lent = c .before .before .before .before .before .before .before .least in
+    let s = c .before .before .before .before .call in
+    turned (now (a .scheme)) (now (a .network)) (now (a .encoded)) (a .n) (now (a .lists)) _ _ _ (s .last .1 .1 .1 .0) (256 * a .n + lent .result - 256 * a .n) _ _ _ (c .before .before .before .before .before .before .before .before .decode .result) (c .before .before .before .before .before .before .before .before .before .before .before .before .before .wide .ensures) (c .before .before .before .before .before .before .before .before .before .before .before .wide2 .ensures) (c .before .before .before .before .before .before .before .before .before .wide3 .ensures) (c .before .before .before .before .before .before .before .before .decode .ensures) (c .before .before .before .before .before .before .before .before .before .before .before .before .before .before .before .before .before .before .before .before .pre .1) (omega (arith, lent .ensures)) (s .kept .1 .1 .1 .0) (s .ensures)
 
 pub turn-spec : {M : Type 1} → statement M
 turn-spec =
@@ -119,14 +122,15 @@ turn-spec =
     mul-wide-6
     shared-slice-read-wide-3
     wide-requires-3
+    decode-requires
     mul-start
     least-requires
     add-end
-    mul-step
-    sub-step
-    part-step-start
-    part-step-end
-    step-requires
+    mul-call
+    sub-call
+    part-call-start
+    part-call-end
+    call-requires
     same-length
     same-length-2
     returns)

@@ -1,0 +1,84 @@
+-- What a call leaves: one result, and nothing in the output but for a list.
+use Prim.Native.Nat.{ℕ, zero, suc, _+_, _<_}
+use mathlib.Core.Path.{_≡_, refl, sym, _∙_, ap, ap₂}
+use mathlib.Core.List.{List, [], _++_}
+use native.Mathlib.Omega.{arith}
+use lib.ListN.{length, take, drop, set, take-append-drop, length-append, length-set}
+use lib.Seq.{length-take-le, take-at, drop-at, drop-drop, drop-set-lt}
+use Rattle.model.specs.Scheme.{Scheme}
+use Rattle.model.specs.SchemeBytes.{schemeOf}
+use Rattle.model.specs.Network.{Maps, held}
+use Rattle.model.specs.Requests.{Request, event, set-policy, find, list, view, writes, granted}
+use Rattle.model.specs.Calls.{puts, callNeeds, FrontOnly, Left}
+use Rattle.model.proofs.Answering.{answers-unique}
+
+-- the list stands at the front, and behind it what stood there
+pub filled : {count : ℕ} {out after : List ℕ} (l : List ℕ) → FrontOnly count out after → take count after ≡ l
+    → (count ≡ length l) × (after ≡ l ++ drop count out)
+filled {count} {out} {after} l f e = (
+  sym (length-take-le count after (f .within)) ∙ ap length e,
+  sym (take-append-drop count after) ∙ ap₂ (λ (x y : List ℕ). x ++ y) e (f .behind),
+)
+
+-- and whatever stands so was written so
+pub front-only : (l out : List ℕ) → FrontOnly (length l) out (l ++ drop (length l) out) × (take (length l) (l ++ drop (length l) out) ≡ l)
+front-only l out = (
+  record { within = simp length-append (omega arith); behind = drop-at l (drop (length l) out) (length l) refl },
+  take-at l (drop (length l) out) (length l) refl,
+)
+
+-- where nothing was written, nothing changed
+pub nothing-written : {count : ℕ} {out after : List ℕ} → FrontOnly count out after → take count after ≡ [] → (count ≡ 0) × (after ≡ out)
+nothing-written {count} {out} {after} f e =
+    let (c, a) = filled [] f e in
+    (c, a ∙ ap (λ (i : ℕ). drop i out) c)
+
+pub drop-more : (l l' : List ℕ) (n : ℕ) → drop n l' ≡ drop n l → drop (n + 1) l' ≡ drop (n + 1) l
+drop-more l l' n e = sym (drop-drop 1 n l') ∙ ap (λ (k : List ℕ). drop 1 k) e ∙ drop-drop 1 n l
+
+-- one place more was written
+pub front-more : {count : ℕ} {out after : List ℕ} (x : ℕ) → count < length after → FrontOnly count out after → FrontOnly (count + 1) out (set after count x)
+front-more {count} {out} {after} x h f = record {
+  within = simp length-set (omega arith);
+  behind = drop-set-lt (count + 1) after count x (omega arith) ∙ drop-more out after count (f .behind);
+}
+
+-- a refusal writes nothing, and so does a grant that has nothing to write
+pub none-granted : (k : ℕ) {l : List ℕ} → (k ≡ 0 → l ≡ []) → granted k l [] ≡ []
+none-granted zero e = e refl
+none-granted (suc k) e = refl
+
+-- lists alone write
+lists-alone : (c : Scheme) (s : Maps) (q : Request) → ((v u places : ℕ) → q ≡ list v u places → ⊥) → writes c s q ≡ []
+lists-alone c s (event v u a) plain = refl
+lists-alone c s (set-policy u r p) plain = refl
+lists-alone c s (find v u) plain = refl
+lists-alone c s (list v u places) plain = absurd (plain v u places refl)
+lists-alone c s (view v u o) plain = refl
+
+module _ (b net : List ℕ) (q : Request) (out : List ℕ) where
+  -- what a call with this answer writes
+  abbrev writing : ℕ → List ℕ
+  writing answer = granted answer (writes (schemeOf b) (held (schemeOf b) net) q) []
+
+  -- equal inputs leave no two results
+  pub left-once : {k k' n n' : ℕ} {o o' after after' : List ℕ} → Left b net q out k n o after → Left b net q out k' n' o' after'
+      → (k ≡ k') × (n ≡ n') × (o ≡ o') × (after ≡ after')
+  left-once {k} {k'} {n} {n'} {o} {o'} {after} {after'} l l' =
+      let e : k ≡ k' = answers-unique (callNeeds b net q) k k' (l .called .answered) (l' .called .answered) in
+      let (c, f) = filled (writing k') (l .front) (l .called .wrote ∙ ap writing e) in
+      let (c', f') = filled (writing k') (l' .front) (l' .called .wrote) in
+      let same : n ≡ n' = c ∙ sym c' in (
+        e,
+        same,
+        f ∙ ap (λ (i : ℕ). writing k' ++ drop i out) same ∙ sym f',
+        l .called .bytes ∙ ap (λ (i : ℕ). granted i (puts (schemeOf b) net q) net) e ∙ sym (l' .called .bytes),
+      )
+
+  -- a refused request leaves the output as it was
+  pub refused-left : {k n : ℕ} {o after : List ℕ} → (k ≡ 0 → ⊥) → Left b net q out k n o after → (n ≡ 0) × (o ≡ out)
+  refused-left {k} refused l = nothing-written (l .front) (l .called .wrote ∙ none-granted k (λ z. absurd (refused z)))
+
+  -- and so does one that is no list
+  pub plain-left : {k n : ℕ} {o after : List ℕ} → ((v u places : ℕ) → q ≡ list v u places → ⊥) → Left b net q out k n o after → (n ≡ 0) × (o ≡ out)
+  plain-left {k} plain l = nothing-written (l .front) (l .called .wrote ∙ none-granted k (λ z. lists-alone _ _ q plain))
