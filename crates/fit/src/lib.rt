@@ -103,10 +103,10 @@ fn mask_fits(mask: u32, policies: usize) -> bool
     requires { ⌜ policies ≤ 32 ⌝ }
     ensures { λ r. ⌜ Decides r (MaskFits policies mask) ⌝ }
 {
-    if mask == 0 {
+    if (mask as u64) >> policies != 0 {
         return false;
     }
-    (mask as u64) >> policies == 0
+    mask != 0
 }
 
 // Whether each resource's mask fits.
