@@ -30,7 +30,10 @@ slice-aggregate-begin : tie.Need-slice-aggregate-begin
 slice-aggregate-begin c = search needs
 
 begin-requires : tie.Need-begin-requires
-begin-requires c κs = search needs
+begin-requires c κs =
+    let n = c .before in
+    let p = n .before .before .before .before .before .pre in
+    (p .0, p .2, n .unseen .ensures .0, n .unseen .ensures .1)
 
 array-read-if1 : tie.Need-array-read-if1
 array-read-if1 c = omega (arith, ready-range (start (c .before) .pre .0))
@@ -42,7 +45,7 @@ returns c =
     begun-walk (b .begin .ensures) .sound (start b .args .u) (omega arith) (omega arith)
 
 allows-requires : tie.Need-allows-requires
-allows-requires c κs = search needs
+allows-requires c κs = let p = start (c .before .before) .pre in (p .0, p .1, p .3, p .2, omega arith)
 
 returns-2 : tie.Need-returns-2
 returns-2 c =

@@ -1,8 +1,7 @@
 use Prim.Native.Nat.{_-_, _≤_}
-use mathlib.Core.Path.{_≡_, refl}
-use mathlib.Core.Logic.{inl, ⊎-elim}
+use mathlib.Core.Path.{_≡_}
+use mathlib.Core.Logic.{⊎-elim}
 use native.Mathlib.Omega.{arith}
-use borrow.Author.Count.{below-none}
 use Rattle.network.specs.Ready.{worldOf}
 use Rattle.network.proofs.Reading.{ready-range}
 use Rattle.starts.specs.Starts.{SearchAdded}
