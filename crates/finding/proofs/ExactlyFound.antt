@@ -53,7 +53,7 @@ module _ {w : World} {v u : ℕ} {before seen : List ℕ} (x : WalkEnded w v u b
   not-found b f = omega (arith, all-seen u f, x .walking .unmet b)
 
 -- a walk for nobody goes on to its end
-walk-ends : {w : World} {v u : ℕ} {before seen : List ℕ} {met : Bool} → Walked w v u before seen met → w .graph .members ≤ u
+pub walk-ends : {w : World} {v u : ℕ} {before seen : List ℕ} {met : Bool} → Walked w v u before seen met → w .graph .members ≤ u
     → WalkEnded w v u before seen
 walk-ends {w} {v} {u} {before} {seen} {met} x b = go met (x .found) (x .ended)
   where

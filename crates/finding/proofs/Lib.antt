@@ -1,1 +1,2 @@
-mod ExactlyFound
+pub mod ExactlyFound
+pub mod EveryoneFound

@@ -11,30 +11,30 @@ use Rattle.model.specs.Decides.{Decides}
 use Rattle.model.specs.Graph.{Graph, Friends}
 use Rattle.model.specs.Finding.{World}
 use Rattle.model.proofs.Deciding.{said-yes, said-no}
-use Rattle.starts.specs.Starts.{Begun, Added}
+use Rattle.starts.specs.Starts.{Begun, StartsAdded}
 use Rattle.starts.proofs.OneStored.{Stored, one-stored}
 
-pub add-none : {n : ℕ} {Of : ℕ → Type 0} {seen : List ℕ} → length seen ≡ 256 → Added n Of seen 0 seen
+pub add-none : {n : ℕ} {Of : ℕ → Type 0} {seen : List ℕ} → length seen ≡ 256 → StartsAdded n Of seen 0 seen
 add-none l = record { long = l; added = below-none _; each = λ k a. inl refl }
 
-module _ {n i : ℕ} {Of : ℕ → Type 0} {before seen : List ℕ} (x : Added n Of before i seen) where
-  pass : (Of i → 1 ≤ getD seen i 0) → Added n Of before (i + 1) seen
-  pass h = record { long = x .long; added = below-more _ _ (x .added) h; each = x .each }
+module _ {n i : ℕ} {Of : ℕ → Type 0} {before seen : List ℕ} (x : StartsAdded n Of before i seen) where
+  skip : (Of i → 1 ≤ getD seen i 0) → StartsAdded n Of before (i + 1) seen
+  skip h = record { long = x .long; added = below-more _ _ (x .added) h; each = x .each }
 
   -- i is seen
-  pub pass-seen : (getD seen i 0 ≡ 0 → ⊥) → Added n Of before (i + 1) seen
-  pass-seen h = pass (λ a. omega arith)
+  pub skip-seen : (getD seen i 0 ≡ 0 → ⊥) → StartsAdded n Of before (i + 1) seen
+  skip-seen h = skip (λ a. omega arith)
 
   -- i is none of the set
-  pub pass-other : (Of i → ⊥) → Added n Of before (i + 1) seen
-  pass-other h = pass (λ a. absurd (h a))
+  pub skip-other : (Of i → ⊥) → StartsAdded n Of before (i + 1) seen
+  skip-other h = skip (λ a. absurd (h a))
 
-  pub pass-refused : {a : Bool} → a ≡ false → Decides a (Of i) → Added n Of before (i + 1) seen
-  pass-refused e d = pass-other (said-no e d)
+  pub skip-refused : {a : Bool} → a ≡ false → Decides a (Of i) → StartsAdded n Of before (i + 1) seen
+  skip-refused e d = skip-other (said-no e d)
 
   module _ (small : n ≤ 256) (b : i < n) where
     -- i was unseen, and is of the set
-    add : getD before i 0 ≡ 0 → Of i → Added n Of before (i + 1) (set seen i 1)
+    add : getD before i 0 ≡ 0 → Of i → StartsAdded n Of before (i + 1) (set seen i 1)
     add z y = record {
       long = simp length-set (x .long);
       added = λ k a h. ⊎-elim (λ q. omega arith) (λ q. let y = x .added k (omega (arith, q .0)) h in omega arith) (at k);
@@ -47,18 +47,18 @@ module _ {n i : ℕ} {Of : ℕ → Type 0} {before seen : List ℕ} (x : Added n
         at : (k : ℕ) → Stored seen i 1 k
         at = one-stored seen i 1 (x .long) (omega arith)
 
-    pub add-allowed : {a : Bool} → getD seen i 0 ≡ 0 → a ≡ true → Decides a (Of i) → Added n Of before (i + 1) (set seen i 1)
+    pub add-allowed : {a : Bool} → getD seen i 0 ≡ 0 → a ≡ true → Decides a (Of i) → StartsAdded n Of before (i + 1) (set seen i 1)
     add-allowed z e d = add (⊎-elim (λ w. omega arith) (λ w. w .0) (x .each i b)) (said-yes e d)
 
-module _ (g : Graph) (v : ℕ) {n i : ℕ} {before seen : List ℕ} (x : Added n (Friends g v) before i seen) {r : Bool} (e : r ≡ g .friends v i) where
-  pub pass-stranger : r ≡ false → Added n (Friends g v) before (i + 1) seen
-  pass-stranger f = pass-other x (λ t. true≢false (sym t ∙ sym e ∙ f))
+module _ (g : Graph) (v : ℕ) {n i : ℕ} {before seen : List ℕ} (x : StartsAdded n (Friends g v) before i seen) {r : Bool} (e : r ≡ g .friends v i) where
+  pub skip-stranger : r ≡ false → StartsAdded n (Friends g v) before (i + 1) seen
+  skip-stranger f = skip-other x (λ t. true≢false (sym t ∙ sym e ∙ f))
 
-  pub add-friend : n ≤ 256 → i < n → getD before i 0 ≡ 0 → r ≡ true → Added n (Friends g v) before (i + 1) (set seen i 1)
+  pub add-friend : n ≤ 256 → i < n → getD before i 0 ≡ 0 → r ≡ true → StartsAdded n (Friends g v) before (i + 1) (set seen i 1)
   add-friend small b z t = add x small b z (sym e ∙ t)
 
 -- the viewer joins its friends
-pub begun : {w : World} {v i : ℕ} {before seen : List ℕ} → Added (w .graph .members) (Friends (w .graph) v) before i seen
+pub begun : {w : World} {v i : ℕ} {before seen : List ℕ} → StartsAdded (w .graph .members) (Friends (w .graph) v) before i seen
     → ((k : ℕ) → getD before k 0 ≡ 0)
     → w .graph .members ≤ 256
     → w .graph .members ≤ i

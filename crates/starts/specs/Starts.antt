@@ -14,11 +14,11 @@ pub record Begun (w : World) (v : ℕ) (seen : List ℕ) : Type 0 where
   pub exactly : (k : ℕ) → k < w .graph .members → (1 ≤ getD seen k 0) ↔ ((k ≡ v) ⊎ Friends (w .graph) v k)
 
 -- of the members below i, of n in all, those of a set are seen: the unseen of them wait, and all else stays
-pub record Added (n : ℕ) (Of : ℕ → Type 0) (before : List ℕ) (i : ℕ) (after : List ℕ) : Type 0 where
+pub record StartsAdded (n : ℕ) (Of : ℕ → Type 0) (before : List ℕ) (i : ℕ) (after : List ℕ) : Type 0 where
   pub long : length after ≡ 256
   pub added : (k : ℕ) → k < i → Of k → 1 ≤ getD after k 0
   pub each : (k : ℕ) → k < n → (getD after k 0 ≡ getD before k 0) ⊎ ((getD before k 0 ≡ 0) × (getD after k 0 ≡ 1) × Of k)
 
 -- the set of those whose search setting admits the viewer
 abbrev pub SearchAdded : World → ℕ → List ℕ → ℕ → List ℕ → Type 0
-SearchAdded w v before i after = Added (w .graph .members) (λ k. Allows w k 0 v) before i after
+SearchAdded w v before i after = StartsAdded (w .graph .members) (λ k. Allows w k 0 v) before i after

@@ -34,7 +34,7 @@ pub fn unseen() -> [u8; 256]
     [0u8; 256]
 }
 
-// Lets the viewer and its friends wait.
+// Marks the viewer and its friends as waiting.
 pub fn begin(scheme: &[u8], c: Counts, network: &[u8], v: usize, seen: &mut [u8])
     requires { ⌜ Ready (now scheme) c (now network) × (v < c .members) × (length (now seen) ≡ 256) × ((k : ℕ) → getD (now seen) k 0 ≡ 0) ⌝ }
     ensures { λ r. ⌜ Begun (worldOf (now (scheme .entry)) (now (network .entry))) v (now (seen .exit)) ⌝ }
@@ -49,8 +49,8 @@ pub fn begin(scheme: &[u8], c: Counts, network: &[u8], v: usize, seen: &mut [u8]
     seen[v] = 1;
 }
 
-// Lets the unseen members wait whose search setting admits the viewer. Where u is a member, its setting does not, and is not
-// asked again.
+// Marks the unseen members whose search setting admits the viewer as waiting. If u is a member, its setting does not admit
+// the viewer, and is not asked again.
 pub fn search(
     scheme: &[u8],
     c: Counts,

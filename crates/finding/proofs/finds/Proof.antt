@@ -16,8 +16,8 @@ abbrev world : tie.Start → World
 world s = worldOf (s .args .scheme .now) (s .args .network .now)
 
 -- the first walk begins where u is neither the viewer nor its friend, and its search setting refuses
-abbrev begun : tie.Else2 → tie.After-begin
-begun e = e .before .before .before .before
+abbrev after-begin : tie.Else2 → tie.After-begin
+after-begin e = e .before .before .before .before
 
 -- and has ended without u
 abbrev unmet : tie.Else3 → tie.Else2
@@ -30,7 +30,10 @@ slice-aggregate-begin : tie.Need-slice-aggregate-begin
 slice-aggregate-begin c = search needs
 
 begin-requires : tie.Need-begin-requires
-begin-requires c κs = search needs
+begin-requires c κs =
+    let n = c .before in
+    let p = n .before .before .before .before .before .pre in
+    (p .0, p .2, n .unseen .ensures .0, n .unseen .ensures .1)
 
 array-read-if1 : tie.Need-array-read-if1
 array-read-if1 c = omega (arith, ready-range (start (c .before) .pre .0))
@@ -42,7 +45,7 @@ returns c =
     begun-walk (b .begin .ensures) .sound (start b .args .u) (omega arith) (omega arith)
 
 allows-requires : tie.Need-allows-requires
-allows-requires c κs = search needs
+allows-requires c κs = let p = start (c .before .before) .pre in (p .0, p .1, p .3, p .2, omega arith)
 
 returns-2 : tie.Need-returns-2
 returns-2 c =
@@ -56,8 +59,8 @@ slice-aggregate-walk c = search needs
 walk-requires : tie.Need-walk-requires
 walk-requires c κs =
     let e = c .before in
-    let p = start (begun e) .pre in
-    (p .0, p .1, p .2, begun-walk (begun e .begin .ensures), λ b. e .before .before .if1 .left)
+    let p = start (after-begin e) .pre in
+    (p .0, p .1, p .2, begun-walk (after-begin e .begin .ensures), λ b. omega (arith, e .before .before .if1 .left))
 
 returns-3 : tie.Need-returns-3
 returns-3 c = c .before .before .walk .ensures .found (c .if3 .taken)
@@ -69,7 +72,7 @@ search-requires : tie.Need-search-requires
 search-requires c κs =
     let f = c .before in
     let e = unmet f in
-    let s = start (begun e) in
+    let s = start (after-begin e) in
     (s .pre .0, s .pre .1, s .pre .2, λ b. not-allowed (world s) (s .args .v) (s .args .u) (e .before .allows .ensures) (e .if2 .left), f .before .before .walk .ensures .ended (f .if3 .left) .walking .walk .long)
 
 slice-aggregate-walk-2 : tie.Need-slice-aggregate-walk-2
@@ -79,7 +82,7 @@ walk-requires-2 : tie.Need-walk-requires-2
 walk-requires-2 c κs =
     let f = c .before .before .before .before in
     let e = unmet f in
-    let s = start (begun e) in
+    let s = start (after-begin e) in
     let x = f .before .before .walk .ensures .ended (f .if3 .left) .walking in
     let y = c .before .before .search .ensures in
     (s .pre .0, s .pre .1, s .pre .2, searched-walk x y, searched-unmet x y (λ b. not-allowed (world s) (s .args .v) (s .args .u) (e .before .allows .ensures) (e .if2 .left)))
@@ -88,7 +91,7 @@ returns-4 : tie.Need-returns-4
 returns-4 c =
     let g = c .before .before .before .before in
     let f = g .before .before in
-    let b = begun (unmet f) in
+    let b = after-begin (unmet f) in
     let s = start b in
     let e = s .pre .0 .counts .members in
     let m : s .args .u < world s .graph .members = omega arith in

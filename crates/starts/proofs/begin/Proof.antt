@@ -6,13 +6,13 @@ use Rattle.model.specs.Graph.{Friends}
 use Rattle.model.specs.SchemeBytes.{n}
 use Rattle.network.specs.Ready.{graphOf}
 use Rattle.network.proofs.Reading.{ready-range}
-use Rattle.starts.specs.Starts.{Added}
-use Rattle.starts.proofs.StartsMarked.{add-none, pass-stranger, add-friend, begun}
+use Rattle.starts.specs.Starts.{StartsAdded}
+use Rattle.starts.proofs.StartsMarked.{add-none, skip-stranger, add-friend, begun}
 use Rattle.starts.proofs.begin.Statement.{statement}
 use Rattle.starts.proofs.begin.Tie as tie
 
 abbrev Inv-loop : tie.InvT-loop
-Inv-loop scheme c network v seen₀ k₀ seen k = (k ≤ c .members) × Added (n scheme) (Friends (graphOf scheme network) v) seen₀ k seen
+Inv-loop scheme c network v seen₀ k₀ seen k = (k ≤ c .members) × StartsAdded (n scheme) (Friends (graphOf scheme network) v) seen₀ k seen
 
 abbrev μ-loop : tie.MeasureT-loop
 μ-loop scheme c network v seen₀ k₀ seen k = c .members - k
@@ -50,7 +50,7 @@ loop-again c =
       omega arith,
       ⊎-elim
           (λ w. rw (w .1) (add-friend g (s .args .v) x f (omega arith) (omega arith) (s .pre .3 (a .loop .k)) (w .0 .taken)))
-          (λ w. rw (w .1) (pass-stranger g (s .args .v) x f (w .0 .left)))
+          (λ w. rw (w .1) (skip-stranger g (s .args .v) x f (w .0 .left)))
           (c .if2 .came),
     )
 

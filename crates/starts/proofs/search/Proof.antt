@@ -1,12 +1,11 @@
 use Prim.Native.Nat.{_-_, _≤_}
-use mathlib.Core.Path.{_≡_, refl}
-use mathlib.Core.Logic.{inl, ⊎-elim}
+use mathlib.Core.Path.{_≡_}
+use mathlib.Core.Logic.{⊎-elim}
 use native.Mathlib.Omega.{arith}
-use borrow.Author.Count.{below-none}
 use Rattle.network.specs.Ready.{worldOf}
 use Rattle.network.proofs.Reading.{ready-range}
 use Rattle.starts.specs.Starts.{SearchAdded}
-use Rattle.starts.proofs.StartsMarked.{add-none, pass-seen, pass-other, pass-refused, add-allowed}
+use Rattle.starts.proofs.StartsMarked.{add-none, skip-seen, skip-other, skip-refused, add-allowed}
 use Rattle.starts.proofs.search.Statement.{statement}
 use Rattle.starts.proofs.search.Tie as tie
 
@@ -55,8 +54,10 @@ loop-again c =
       ⊎-elim
           (λ w. rw (w .4) (add-allowed x (omega arith) (omega arith) (w .0 .taken) (w .3 .taken) (w .2 .ensures)))
           (⊎-elim
-          (λ w. rw (w .4) (pass-refused x (w .3 .left) (w .2 .ensures)))
-          (⊎-elim (λ w. rw (w .2) (pass-other x (rw (w .1 .left) (p .3 (omega arith))))) (λ w. rw (w .1) (pass-seen x (w .0 .left)))))
+          (λ w. rw (w .4) (skip-refused x (w .3 .left) (w .2 .ensures)))
+          (⊎-elim
+          (λ w. let u : a .loop .k ≡ start a .args .u = omega (arith, w .1 .left) in rw (w .2) (skip-other x (rw u (p .3 (omega arith)))))
+          (λ w. rw (w .1) (skip-seen x (w .0 .left)))))
           (c .if2 .came),
     )
 

@@ -94,7 +94,7 @@ first-unseen-requires c κs =
     let h = chosen x in
     let p = start (turn x) .pre .0 in
     let e = p .counts .members in
-    (omega (arith, expand-begin h .long), turn x .walk .inv .1, still-seen h (turn x .walk .inv .3))
+    (omega (arith, expand-begin h .long), omega (arith, turn x .walk .inv .1), still-seen h (turn x .walk .inv .3))
 
 friend-requires : tie.Need-friend-requires Inv-loop μ-loop Inv-walk μ-walk
 friend-requires c κs =
@@ -156,7 +156,7 @@ loop-again c =
     let small = chosen (expanded l) .small in
     let f = c .friend2 .ensures in
     let (friend, unseen) = i .3 (c .before .before .before .before .if3 .taken) in
-    let x = expand-mark (i .4) (omega arith) (t .if2 .taken) (t .before .allows .ensures) friend small unseen (c .before .before .before .if4 .left) in
+    let x = expand-mark (i .4) (omega arith) (t .if2 .taken) (t .before .allows .ensures) friend small unseen (λ q. omega (arith, c .before .before .before .if4 .left)) in
     (f .within, omega (arith, c .before .before .least .ensures), nobody-below (i .4) (omega arith) (i .2) (c .before .before .least .ensures), f .stops, expand-to x (f .passed))
 
 same-length : tie.Need-same-length Inv-loop μ-loop Inv-walk μ-walk
@@ -184,7 +184,8 @@ returns-2 c =
     let t = l .before .before .before .before .before in
     let e = start (turn (expanded l)) .pre .0 .counts .members in
     let f = expand-met (l .loop .inv .4) (omega arith) (t .if2 .taken) (t .before .allows .ensures) (l .loop .inv .3 (c .before .if3 .taken) .0) in
-    record { found = λ y. rw (← c .if4 .taken) f; ended = λ n. absurd (true≢false n) }
+    let u : l .loop .k ≡ start (turn (expanded l)) .args .u = omega (arith, c .if4 .taken) in
+    record { found = λ y. rw (← u) f; ended = λ n. absurd (true≢false n) }
 
 pub walk-spec : {M : Type 1} → statement M
 walk-spec =
