@@ -12,7 +12,7 @@ use denote.Triple.Clauses.{atExit}
 use Rattle.model.specs.Finding.{World, Finds}
 use Rattle.tables.specs.declared.Counts.{Counts}
 use Rattle.network.specs.Ready.{Ready, worldOf}
-use Rattle.policies.specs.Admission.{Prepared}
+use Rattle.prepared.specs.Prepared.{Prepared}
 use Rattle.walk.specs.Walks.{WalkEnded}
 use Rattle.starts.proofs.begin as begin-contract
 use Rattle.starts.proofs.begin.Reads as begin-reads
