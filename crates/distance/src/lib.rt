@@ -60,13 +60,7 @@ fn spread(
 }
 
 // Marks the friends of those with a mark that have none yet; whether there was one with that mark.
-fn layer(
-    scheme: &[u8],
-    c: Counts,
-    network: &[u8],
-    mark: u16,
-    distances: &mut [u16],
-) -> bool
+fn layer(scheme: &[u8], c: Counts, network: &[u8], mark: u16, distances: &mut [u16]) -> bool
     requires { ⌜ Ready (now scheme) c (now network) × (0 < mark) × (mark ≤ 255) × (length (now distances) ≡ 256) ⌝ }
     ensures { λ r. ⌜ Layered (graphOf (now (scheme .entry)) (now (network .entry))) mark (now (distances .entry)) (c .members) (now (distances .exit)) r ⌝ }
 {
@@ -85,14 +79,7 @@ fn layer(
 }
 
 // Writes for each member one more than the least number of friendships to v, or 0 where more than the limit are needed.
-pub fn fill(
-    scheme: &[u8],
-    c: Counts,
-    network: &[u8],
-    v: usize,
-    limit: usize,
-    distances: &mut [u16],
-)
+pub fn fill(scheme: &[u8], c: Counts, network: &[u8], v: usize, limit: usize, distances: &mut [u16])
     requires { ⌜ Ready (now scheme) c (now network) × (v < c .members) × (limit ≤ 255) × (length (now distances) ≡ 256) ⌝ }
     ensures { λ r. ⌜ (length (now (distances .exit)) ≡ 256) × Distances (graphOf (now (scheme .entry)) (now (network .entry))) v limit (now (distances .exit)) ⌝ }
 {

@@ -6,14 +6,7 @@ ghost use Rattle.network.specs.Ready.{Ready, graphOf};
 ghost use Rattle.next_friend.specs.Next.{Next};
 
 // Below m: their bytes stand side by side.
-fn below(
-    scheme: &[u8],
-    c: Counts,
-    network: &[u8],
-    m: usize,
-    seen: &[u8],
-    from: usize,
-) -> usize
+fn below(scheme: &[u8], c: Counts, network: &[u8], m: usize, seen: &[u8], from: usize) -> usize
     requires { ⌜ Ready (now scheme) c (now network) × (m < c .members) × (c .members ≤ length (now seen)) × (from ≤ m) ⌝ }
     ensures { λ r. ⌜ Next (graphOf (now (scheme .entry)) (now (network .entry))) m (now (seen .entry)) from m r ⌝ }
 {
@@ -31,14 +24,7 @@ fn below(
 }
 
 // Above m: the byte of the next stands k further.
-fn above(
-    scheme: &[u8],
-    c: Counts,
-    network: &[u8],
-    m: usize,
-    seen: &[u8],
-    from: usize,
-) -> usize
+fn above(scheme: &[u8], c: Counts, network: &[u8], m: usize, seen: &[u8], from: usize) -> usize
     requires { ⌜ Ready (now scheme) c (now network) × (m < from) × (c .members ≤ length (now seen)) × (from ≤ c .members) ⌝ }
     ensures { λ r. ⌜ Next (graphOf (now (scheme .entry)) (now (network .entry))) m (now (seen .entry)) from (c .members) r ⌝ }
 {
@@ -57,14 +43,7 @@ fn above(
 }
 
 // The first friend of m from a member on who is not seen, or the number of members.
-pub fn friend(
-    scheme: &[u8],
-    c: Counts,
-    network: &[u8],
-    m: usize,
-    seen: &[u8],
-    from: usize,
-) -> usize
+pub fn friend(scheme: &[u8], c: Counts, network: &[u8], m: usize, seen: &[u8], from: usize) -> usize
     requires { ⌜ Ready (now scheme) c (now network) × (m < c .members) × (c .members ≤ length (now seen)) × (from ≤ c .members) ⌝ }
     ensures { λ r. ⌜ Next (graphOf (now (scheme .entry)) (now (network .entry))) m (now (seen .entry)) from (c .members) r ⌝ }
 {

@@ -53,13 +53,7 @@ pub fn set(scheme: &[u8], network: &mut [u8], u: usize, r: usize, p: usize) -> u
 }
 
 // Writes u's friends in rising order at the front of the output; how many.
-fn write_friends(
-    scheme: &[u8],
-    c: Counts,
-    network: &[u8],
-    u: usize,
-    output: &mut [u16],
-) -> usize
+fn write_friends(scheme: &[u8], c: Counts, network: &[u8], u: usize, output: &mut [u16]) -> usize
     requires { ⌜ Ready (now scheme) c (now network) × (u < c .members) × (c .members ≤ length (now output)) ⌝ }
     ensures { λ r. ⌜ (take r (now (output .exit)) ≡ those (graphOf (now (scheme .entry)) (now (network .entry)) .friends u) (c .members)) × FrontOnly r (now (output .entry)) (now (output .exit)) ⌝ }
 {

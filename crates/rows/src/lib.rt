@@ -15,14 +15,7 @@ fn least(x: usize, y: usize) -> usize
 }
 
 // The first bits of u's row from a member on, all of members below u: their states stand side by side.
-fn lesser(
-    scheme: &[u8],
-    c: Counts,
-    network: &[u8],
-    u: usize,
-    from: usize,
-    end: usize,
-) -> u64
+fn lesser(scheme: &[u8], c: Counts, network: &[u8], u: usize, from: usize, end: usize) -> u64
     requires { ⌜ Ready (now scheme) c (now network) × (u < c .members) × (from + end ≤ u) × (end ≤ 64) ⌝ }
     ensures { λ r. ⌜ FirstBits (graphOf (now (scheme .entry)) (now (network .entry))) u from end r ⌝ }
 {
