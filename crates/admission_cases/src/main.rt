@@ -9,7 +9,7 @@ use cases::Number;
 use cases::Part;
 use libc::STDIN_FILENO;
 use scheme::Reading;
-use tables::Counts;
+use tables::Summary;
 
 // What reading a question finds: accessor and owner, or the end of the input.
 enum Question {
@@ -29,7 +29,7 @@ fn read_question() -> Question {
 fn print_admitted(
     number: u64,
     scheme: &[u8],
-    c: Counts,
+    c: Summary,
     network: &[u8],
     v: usize,
     u: usize,
@@ -51,7 +51,7 @@ fn print_admitted(
 fn run_question(
     number: u64,
     scheme: &[u8],
-    c: Counts,
+    c: Summary,
     network: &[u8],
     distances: &mut [u16],
     rows: &mut [u64],
@@ -75,7 +75,7 @@ fn run_question(
 fn run_questions(
     number: u64,
     scheme: &[u8],
-    c: Counts,
+    c: Summary,
     network: &[u8],
     count: usize,
     distances: &mut [u16],

@@ -3,7 +3,7 @@
 ghost use Rattle.tables.specs.Read.{ReadAs};
 use cases::Part;
 use scheme::Reading;
-use tables::Counts;
+use tables::Summary;
 
 // A line's start: the case's number and what the line is about.
 fn print_start(number: u64, about: &[u8]) {
@@ -11,7 +11,7 @@ fn print_start(number: u64, about: &[u8]) {
     printing::text(about);
 }
 
-fn print_counts(c: Counts) {
+fn print_counts(c: Summary) {
     printing::next(c.members as u64);
     printing::next(c.states as u64);
     printing::next(c.primitives as u64);
@@ -19,7 +19,7 @@ fn print_counts(c: Counts) {
     printing::next(c.policies as u64);
 }
 
-fn print_valid(number: u64, scheme: &[u8], c: Counts, network: &[u8])
+fn print_valid(number: u64, scheme: &[u8], c: Summary, network: &[u8])
     requires { ⌜ ReadAs (now scheme) c ⌝ }
 {
     let is_valid = validity::valid(scheme, c, network);

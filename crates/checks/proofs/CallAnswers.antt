@@ -14,14 +14,14 @@ use Rattle.model.proofs.Answering.{ahead}
 use Rattle.scheme.specs.Checked.{numberOf}
 use Rattle.scheme.specs.declared.Reading.{Reading}
 use Rattle.scheme.specs.declared.Reading.the-variants.{Accepted, Refused}
-use Rattle.tables.specs.declared.Counts.{Counts}
+use Rattle.tables.specs.declared.Summary.{Summary}
 use Rattle.checks.specs.Judged.{judgeNeeds}
 use Rattle.checks.specs.Opened.{openNeeds, memberNeeds, Opened}
 use Rattle.checks.proofs.OpenAnswers.{past-scheme}
 
 module _ (b net : List ℕ) (v u : ℕ) where
   -- `open` accepted
-  pub open-accepted : {x : Reading} {c : Counts} → x ≡ Accepted c → Opened b net v u x → Opened b net v u (Accepted c)
+  pub open-accepted : {x : Reading} {c : Summary} → x ≡ Accepted c → Opened b net v u x → Opened b net v u (Accepted c)
   open-accepted e h = rw e at h
 
   -- `open` refused, and the call gives the number back
@@ -36,7 +36,7 @@ module _ (b net : List ℕ) (v u : ℕ) where
     pub refusal-stands : Opened b net v u (Refused k) → Answers (memberNeeds b net v u ++ later) k
     refusal-stands (a, l) = ahead (memberNeeds b net v u) later k l a
 
-    pub later-answers : {c : Counts} → Opened b net v u (Accepted c) → Answers later k → Answers (memberNeeds b net v u ++ later) k
+    pub later-answers : {c : Summary} → Opened b net v u (Accepted c) → Answers later k → Answers (memberNeeds b net v u ++ later) k
     later-answers (h, x, y) a =
         past-scheme (h .accepted) ((5, Valid (schemeOf b) net) ∷ (6, BothMembers (schemeOf b) v u) ∷ later) k
         (inr (h .valid, inr ((omega (arith, h .counts .members), omega (arith, h .counts .members)), a)))

@@ -1,3 +1,4 @@
 pub mod OpenAnswers
 pub mod CallAnswers
 pub mod NearFound
+pub mod JudgeAnswers

@@ -12,7 +12,7 @@ use Rattle.model.proofs.Answering.{granted-met, behind, ahead}
 use Rattle.scheme.specs.Checked.{Checked}
 use Rattle.scheme.specs.declared.Reading.{Reading}
 use Rattle.scheme.specs.declared.Reading.the-variants.{Refused}
-use Rattle.tables.specs.declared.Counts.{Counts}
+use Rattle.tables.specs.declared.Summary.{Summary}
 use Rattle.network.specs.Ready.{Ready}
 use Rattle.checks.specs.Opened.{Opened}
 
@@ -32,9 +32,9 @@ module _ (b net : List ℕ) (v u : ℕ) where
   pub network-refused : Accepted b → (Valid (schemeOf b) net → ⊥) → Opened b net v u (Refused 5)
   network-refused a n = (past-scheme a fiveAndSix 5 (inl (n, refl)), omega arith)
 
-  outside : {c : Counts} → Ready b c net → (c .members ≤ v) ⊎ (c .members ≤ u) → BothMembers (schemeOf b) v u → ⊥
+  outside : {c : Summary} → Ready b c net → (c .members ≤ v) ⊎ (c .members ≤ u) → BothMembers (schemeOf b) v u → ⊥
   outside h (inl l) (x, y) = omega (arith, h .counts .members)
   outside h (inr l) (x, y) = omega (arith, h .counts .members)
 
-  pub member-refused : {c : Counts} → Ready b c net → (c .members ≤ v) ⊎ (c .members ≤ u) → Opened b net v u (Refused 6)
+  pub member-refused : {c : Summary} → Ready b c net → (c .members ≤ v) ⊎ (c .members ≤ u) → Opened b net v u (Refused 6)
   member-refused h l = (past-scheme (h .accepted) fiveAndSix 6 (inr (h .valid, inl (outside h l, refl))), omega arith)

@@ -1,6 +1,6 @@
 // What several calls check: the scheme, the network and the members (1 to 6), finding and admission (9, 10 and 11).
 use scheme::Reading;
-use tables::Counts;
+use tables::Summary;
 ghost use mathlib.Core.Path.{_≡_};
 ghost use mathlib.Core.Logic.{_⊎_};
 ghost use Prim.Native.Nat.{_+_, _<_};
@@ -46,7 +46,7 @@ fn no_rows() -> [u64; 1024]
 }
 
 // Whether v and u are one or friends: then v finds u, and nothing has to be prepared.
-fn near(scheme: &[u8], c: Counts, network: &[u8], v: usize, u: usize) -> bool
+fn near(scheme: &[u8], c: Summary, network: &[u8], v: usize, u: usize) -> bool
     requires { ⌜ Ready (now scheme) c (now network) × (v < c .members) × (u < c .members) ⌝ }
     ensures { λ r. ⌜ Decides r ((u ≡ v) ⊎ Friends (graphOf (now (scheme .entry)) (now (network .entry))) u v) ⌝ }
 {
@@ -57,7 +57,7 @@ fn near(scheme: &[u8], c: Counts, network: &[u8], v: usize, u: usize) -> bool
 }
 
 // Whether v finds u.
-pub fn found(scheme: &[u8], c: Counts, network: &[u8], v: usize, u: usize) -> bool
+pub fn found(scheme: &[u8], c: Summary, network: &[u8], v: usize, u: usize) -> bool
     requires { ⌜ Ready (now scheme) c (now network) × (v < c .members) × (u < c .members) ⌝ }
     ensures { λ r. ⌜ Decides r (Finds (worldOf (now (scheme .entry)) (now (network .entry))) v u) ⌝ }
 {
@@ -73,7 +73,7 @@ pub fn found(scheme: &[u8], c: Counts, network: &[u8], v: usize, u: usize) -> bo
 // Of members that are one or friends: 10 if nothing is defined; 11 if u's setting for resource r does not admit v; else 0.
 fn judge_near(
     scheme: &[u8],
-    c: Counts,
+    c: Summary,
     network: &[u8],
     v: usize,
     u: usize,
@@ -96,7 +96,7 @@ fn judge_near(
 // Of members that are not: 9 if v does not find u; then as above.
 fn judge_apart(
     scheme: &[u8],
-    c: Counts,
+    c: Summary,
     network: &[u8],
     v: usize,
     u: usize,
@@ -124,7 +124,7 @@ fn judge_apart(
 // 9 if v does not find u; 10 if nothing is defined; 11 if u's setting for resource r does not admit v; else 0.
 pub fn judge(
     scheme: &[u8],
-    c: Counts,
+    c: Summary,
     network: &[u8],
     v: usize,
     u: usize,

@@ -1,5 +1,5 @@
 // Distances over friendships (document 01, "Policies", kind 3).
-use tables::Counts;
+use tables::Summary;
 ghost use mathlib.Core.Path.{_≡_};
 ghost use Prim.Native.Nat.{_<_, _≤_};
 ghost use lib.ListN.{length};
@@ -38,7 +38,7 @@ fn unmarked(members: usize, distances: &[u16], from: usize) -> usize
 // Marks the friends of m that have no mark yet, from a member on before whom all have one.
 fn spread(
     scheme: &[u8],
-    c: Counts,
+    c: Summary,
     network: &[u8],
     m: usize,
     mark: u16,
@@ -60,7 +60,7 @@ fn spread(
 }
 
 // Marks the friends of those with a mark that have none yet; whether there was one with that mark.
-fn layer(scheme: &[u8], c: Counts, network: &[u8], mark: u16, distances: &mut [u16]) -> bool
+fn layer(scheme: &[u8], c: Summary, network: &[u8], mark: u16, distances: &mut [u16]) -> bool
     requires { ⌜ Ready (now scheme) c (now network) × (0 < mark) × (mark ≤ 255) × (length (now distances) ≡ 256) ⌝ }
     ensures { λ r. ⌜ Layered (graphOf (now (scheme .entry)) (now (network .entry))) mark (now (distances .entry)) (c .members) (now (distances .exit)) r ⌝ }
 {
@@ -79,7 +79,14 @@ fn layer(scheme: &[u8], c: Counts, network: &[u8], mark: u16, distances: &mut [u
 }
 
 // Writes for each member one more than the least number of friendships to v, or 0 where more than the limit are needed.
-pub fn fill(scheme: &[u8], c: Counts, network: &[u8], v: usize, limit: usize, distances: &mut [u16])
+pub fn fill(
+    scheme: &[u8],
+    c: Summary,
+    network: &[u8],
+    v: usize,
+    limit: usize,
+    distances: &mut [u16],
+)
     requires { ⌜ Ready (now scheme) c (now network) × (v < c .members) × (limit ≤ 255) × (length (now distances) ≡ 256) ⌝ }
     ensures { λ r. ⌜ (length (now (distances .exit)) ≡ 256) × Distances (graphOf (now (scheme .entry)) (now (network .entry))) v limit (now (distances .exit)) ⌝ }
 {

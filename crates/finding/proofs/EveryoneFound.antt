@@ -10,7 +10,7 @@ use contract.Lifetimes.{Lfts}
 use denote.Ref.{RefT, now}
 use denote.Triple.Clauses.{atExit}
 use Rattle.model.specs.Finding.{World, Finds}
-use Rattle.tables.specs.declared.Counts.{Counts}
+use Rattle.tables.specs.declared.Summary.{Summary}
 use Rattle.network.specs.Ready.{Ready, worldOf}
 use Rattle.prepared.specs.Prepared.{Prepared}
 use Rattle.walk.specs.Walks.{WalkEnded}
@@ -23,7 +23,7 @@ use Rattle.walk.proofs.walk.Reads as walk-reads
 use Rattle.finding.proofs.ExactlyFound.{walk-ends, begun-walk, searched-walk, walks-find}
 
 -- what the functions ask of the array that is lent to them, and what a caller learns of it afterwards
-module _ (κs : Lfts 3) (λs : Lfts 5) (scheme network distances rows : RefT (List ℕ)) (c : Counts) (v u : ℕ) where
+module _ (κs : Lfts 3) (λs : Lfts 5) (scheme network distances rows : RefT (List ℕ)) (c : Summary) (v u : ℕ) where
   abbrev world : World
   world = worldOf (now scheme) (now network)
 

@@ -1,5 +1,5 @@
 // Who finds whom (document 01, "Finding").
-use tables::Counts;
+use tables::Summary;
 ghost use Prim.Native.Nat.{_<_};
 ghost use Rattle.model.specs.Decides.{Decides};
 ghost use Rattle.model.specs.Finding.{Finds};
@@ -9,7 +9,7 @@ ghost use Rattle.prepared.specs.Prepared.{Prepared};
 // Whether v finds u.
 pub fn finds(
     scheme: &[u8],
-    c: Counts,
+    c: Summary,
     network: &[u8],
     distances: &[u16],
     rows: &[u64],

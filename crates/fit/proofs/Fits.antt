@@ -12,7 +12,7 @@ use Rattle.model.specs.Decides.{Decides}
 use Rattle.model.proofs.Deciding.{decided, says, iff}
 use Rattle.model.specs.SchemeBytes.{S, A, I, P, at2, at3, at4, at5, field, MoveFits, PolicyFits, MaskFits, Records}
 use Rattle.tables.specs.Read.{InRange}
-use Rattle.tables.specs.declared.Counts.{Counts}
+use Rattle.tables.specs.declared.Summary.{Summary}
 use Rattle.tables.proofs.Places.{Places}
 
 small : {x : ℕ} → (x ≡ 0) ⊎ (x < 2) → x ≤ 1
@@ -34,13 +34,13 @@ module _ (b : List ℕ) where
   Masks = (r : ℕ) → r < 2 + A b + I b → MaskFits (P b) (four b (at5 b + 4 + r * 4))
 
 -- the bytes that the code reads are there
-pub record Room (b : List ℕ) (c : Counts) (marks policies masks resources : ℕ) : Type 0 where
+pub record Room (b : List ℕ) (c : Summary) (marks policies masks resources : ℕ) : Type 0 where
   pub moves-in : 14 + (marks - 18) ≤ length b
   pub friends-in : marks + c .states ≤ length b
   pub policies-in : (policies + c .policies * 4 ≤ length b) × (c .policies ≤ 32) × (c .states ≤ 16)
   pub masks-in : (masks + resources * 4 ≤ length b) × (resources ≤ 26) × (c .policies ≤ 32)
 
-module _ {b : List ℕ} {c : Counts} {marks policies masks resources : ℕ} (o : Places b c marks policies masks resources) where
+module _ {b : List ℕ} {c : Summary} {marks policies masks resources : ℕ} (o : Places b c marks policies masks resources) where
   pub room : InRange c → Records b → Room b c marks policies masks resources
   room g r = omega arith
 

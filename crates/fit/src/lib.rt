@@ -1,5 +1,5 @@
 // The bytes inside a scheme's records (document 01, "Scheme", "Policies"; refusal 3 of the scheme check).
-use tables::Counts;
+use tables::Summary;
 ghost use mathlib.Core.Path.{_≡_};
 ghost use mathlib.Core.Logic.{_⊎_};
 ghost use Prim.Native.Nat.{ℕ, _+_, _*_, _<_, _≤_};
@@ -125,7 +125,7 @@ fn masks_fit(s: &[u8], at: usize, count: usize, policies: usize) -> bool
 }
 
 // Whether each byte of kinds 2 to 5 is what is said of it.
-pub fn bytes_fit(s: &[u8], c: Counts) -> bool
+pub fn bytes_fit(s: &[u8], c: Summary) -> bool
     requires { ⌜ CountsOf (now s) c × InRange c × Records (now s) ⌝ }
     ensures { λ r. ⌜ Decides r (BytesFit (now (s .entry))) ⌝ }
 {

@@ -18,15 +18,15 @@ use Rattle.model.proofs.Answering.{granted-met, behind, ahead}
 use Rattle.model.proofs.Places.{pair-before}
 use Rattle.tables.specs.Read.{CountsOf, ReadAs}
 use Rattle.scheme.specs.Checked.{Checked, numberOf}
-use Rattle.tables.specs.declared.Counts.{Counts}
+use Rattle.tables.specs.declared.Summary.{Summary}
 use Rattle.scheme.specs.declared.Reading.the-variants.{Accepted as Passed, Refused}
 use Rattle.scheme.specs.declared.Reading.{Reading}
-use Rattle.fresh.specs.Fill.{Cleared, MemberFilled, AllFilled}
+use Rattle.fresh.specs.Fill.{ZerosBelow, MemberFilled, AllFilled}
 
-pub cleared-none : (net : List ℕ) → Cleared net 0 net
+pub cleared-none : (net : List ℕ) → ZerosBelow net 0 net
 cleared-none net = record { long = refl; zeros = λ k h. absurd (omega arith); rest = λ k h. refl }
 
-pub cleared-more : {old net : List ℕ} {i : ℕ} → i < length net → Cleared old i net → Cleared old (i + 1) (set net i 0)
+pub cleared-more : {old net : List ℕ} {i : ℕ} → i < length net → ZerosBelow old i net → ZerosBelow old (i + 1) (set net i 0)
 cleared-more {old} {net} {i} h g = record {
   long = length-set net i 0 ∙ g .long;
   zeros = below-more (λ (k : ℕ). byte (set net i 0) k ≡ 0) i (λ k l. getD-set-other net i k 0 0 (omega arith) ∙ g .zeros k l) (getD-set-same net i 0 0 h);
@@ -67,8 +67,8 @@ module _ (s : Scheme) where
   }
 
 -- all pairs cleared and all settings filled is the fresh network
-pub laid : {b net zeroed after : List ℕ} {c : Counts} {from : ℕ} → CountsOf b c → from ≡ pairs (c .members) → length net ≡ size (schemeOf b)
-    → Cleared net from zeroed → AllFilled (schemeOf b) zeroed from (c .members) (2 + c .primitives + c .items) after → Fresh b after
+pub laid : {b net zeroed after : List ℕ} {c : Summary} {from : ℕ} → CountsOf b c → from ≡ pairs (c .members) → length net ≡ size (schemeOf b)
+    → ZerosBelow net from zeroed → AllFilled (schemeOf b) zeroed from (c .members) (2 + c .primitives + c .items) after → Fresh b after
 laid {b} {net} {zeroed} {after} {c} {from} k f l z a = record {
   sized = a .long ∙ z .long ∙ l;
   states = λ i j u v.

@@ -7,7 +7,7 @@ use Rattle.model.specs.Bytes.{byte}
 use Rattle.model.specs.Scheme.{Scheme, lowest}
 
 -- the bytes below a place are 0, the others as they were
-pub record Cleared (before : List ℕ) (to : ℕ) (after : List ℕ) : Type 0 where
+pub record ZerosBelow (before : List ℕ) (to : ℕ) (after : List ℕ) : Type 0 where
   pub long : length after ≡ length before
   pub zeros : (k : ℕ) → k < to → byte after k ≡ 0
   pub rest : (k : ℕ) → to ≤ k → byte after k ≡ byte before k

@@ -1,17 +1,17 @@
 // The fresh network (document 01, "Network", "Fresh").
 use scheme::Reading;
-use tables::Counts;
+use tables::Summary;
 ghost use Prim.Native.Nat.{_+_, _*_, _≤_};
 ghost use lib.ListN.{length};
 ghost use Rattle.model.specs.SchemeBytes.{schemeOf};
 ghost use Rattle.model.specs.Calls.{Freshened};
 ghost use Rattle.tables.specs.Read.{ReadAs};
-ghost use Rattle.fresh.specs.Fill.{Cleared, MemberFilled, AllFilled};
+ghost use Rattle.fresh.specs.Fill.{ZerosBelow, MemberFilled, AllFilled};
 
 // Sets the bytes below a place to 0.
 fn clear(network: &mut [u8], to: usize)
     requires { ⌜ to ≤ length (now network) ⌝ }
-    ensures { λ r. ⌜ Cleared (now (network .entry)) to (now (network .exit)) ⌝ }
+    ensures { λ r. ⌜ ZerosBelow (now (network .entry)) to (now (network .exit)) ⌝ }
 {
     let mut i: usize = 0;
     while i < to {
@@ -21,7 +21,7 @@ fn clear(network: &mut [u8], to: usize)
 }
 
 // Writes one member's fresh settings from a place on.
-fn fill_member(scheme: &[u8], c: Counts, network: &mut [u8], at: usize)
+fn fill_member(scheme: &[u8], c: Summary, network: &mut [u8], at: usize)
     requires { ⌜ ReadAs (now scheme) c × (at + (2 + c .primitives + c .items) ≤ length (now network)) ⌝ }
     ensures { λ x. ⌜ MemberFilled (schemeOf (now (scheme .entry))) (now (network .entry)) at (2 + c .primitives + c .items) (now (network .exit)) ⌝ }
 {
@@ -35,7 +35,7 @@ fn fill_member(scheme: &[u8], c: Counts, network: &mut [u8], at: usize)
 }
 
 // Writes every member's fresh settings from a place on.
-fn fill(scheme: &[u8], c: Counts, network: &mut [u8], from: usize)
+fn fill(scheme: &[u8], c: Summary, network: &mut [u8], from: usize)
     requires { ⌜ ReadAs (now scheme) c × (from + c .members * (2 + c .primitives + c .items) ≤ length (now network)) ⌝ }
     ensures { λ x. ⌜ AllFilled (schemeOf (now (scheme .entry))) (now (network .entry)) from (c .members) (2 + c .primitives + c .items) (now (network .exit)) ⌝ }
 {

@@ -1,5 +1,5 @@
 // How well two members are acquainted (document 01, "Policies", kind 4).
-use tables::Counts;
+use tables::Summary;
 ghost use mathlib.Core.Path.{_≡_};
 ghost use Prim.Native.Nat.{ℕ, _<_};
 ghost use lib.ListN.{length};
@@ -19,7 +19,7 @@ pub enum Acquaintance {
 // The acquaintance of u with v, whose row is in the table.
 pub fn between(
     scheme: &[u8],
-    c: Counts,
+    c: Summary,
     network: &[u8],
     rows: &[u64],
     u: usize,

@@ -1,5 +1,5 @@
 // The counts and the records of a scheme (document 01, "Scheme"; refusals 1 and 2 of the scheme check).
-use tables::Counts;
+use tables::Summary;
 ghost use Prim.Native.Nat.{_≤_};
 ghost use lib.ListN.{length};
 ghost use Rattle.model.specs.Decides.{Decides};
@@ -7,11 +7,11 @@ ghost use Rattle.model.specs.SchemeBytes.{Records};
 ghost use Rattle.tables.specs.Read.{CountsOf, InRange};
 
 // The five counts; the marks are read when the scheme is accepted.
-pub fn counts(s: &[u8]) -> Counts
+pub fn counts(s: &[u8]) -> Summary
     requires { ⌜ 10 ≤ length (now s) ⌝ }
     ensures { λ r. ⌜ CountsOf (now (s .entry)) r ⌝ }
 {
-    Counts {
+    Summary {
         members: records::two(s, 4),
         states: records::wide(s[6]),
         primitives: records::wide(s[7]),
@@ -31,7 +31,7 @@ fn between(x: usize, low: usize, high: usize) -> bool
 }
 
 // Whether each count is in its range.
-pub fn counts_fit(c: Counts) -> bool
+pub fn counts_fit(c: Summary) -> bool
     ensures { λ r. ⌜ Decides r (InRange c) ⌝ }
 {
     if !between(c.members, 1, 256) {
@@ -50,7 +50,7 @@ pub fn counts_fit(c: Counts) -> bool
 }
 
 // Whether the records of kinds 2 to 5 are whole and nothing follows them.
-pub fn records(s: &[u8], c: Counts) -> bool
+pub fn records(s: &[u8], c: Summary) -> bool
     requires { ⌜ CountsOf (now s) c × InRange c ⌝ }
     ensures { λ r. ⌜ Decides r (Records (now (s .entry))) ⌝ }
 {

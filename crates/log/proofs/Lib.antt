@@ -1,2 +1,2 @@
-pub mod Moving
+pub mod PlacesMoved
 pub mod Once

@@ -14,10 +14,10 @@ outcome lent Refused = refused 14
 outcome lent Ended = ended
 
 -- the answer is what document 01 says at this place of the log
-abbrev pub Says : List ℕ → ℕ → Answer → Type 0
-Says log place answer = (lent : ℕ) → NextAt log lent place (outcome lent answer)
+abbrev pub SaidAt : List ℕ → ℕ → Answer → Type 0
+SaidAt log place answer = (lent : ℕ) → NextAt log lent place (outcome lent answer)
 
 -- an answer, and the place afterwards
 pub record Read (log : List ℕ) (place : ℕ) (answer : Answer) (after : ℕ) : Type 0 where
-  pub says : Says log place answer
+  pub says : SaidAt log place answer
   pub moves : (lent : ℕ) → after ≡ placeAfter log place (outcome lent answer)

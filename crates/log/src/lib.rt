@@ -1,7 +1,7 @@
 // The log reader (document 01, "Next log record").
 use kinds::Request;
 ghost use mathlib.Core.Path.{_≡_};
-ghost use Rattle.log.specs.Read.{Says, Read};
+ghost use Rattle.log.specs.Read.{SaidAt, Read};
 
 // What the log reader answers: the request of the next record, 14, or that the log has ended.
 pub enum Answer {
@@ -18,7 +18,7 @@ pub struct Step {
 
 // What stands at a place of the log.
 fn answer_at(log: &[u8], place: usize) -> Answer
-    ensures { λ r. ⌜ Says (now (log .entry)) place r ⌝ }
+    ensures { λ r. ⌜ SaidAt (now (log .entry)) place r ⌝ }
 {
     if log.len() <= place {
         return Answer::Ended;

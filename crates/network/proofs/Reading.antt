@@ -15,7 +15,7 @@ use Rattle.model.proofs.Bits.{bit-below}
 use Rattle.model.proofs.Held.{held-state, held-setting, other-state}
 use Rattle.model.proofs.Places.{pairs-suc, pairs-mono, pair-before, setting-before}
 use Rattle.tables.specs.Read.{InRange, ReadAs}
-use Rattle.tables.specs.declared.Counts.{Counts}
+use Rattle.tables.specs.declared.Summary.{Summary}
 use Rattle.scheme.proofs.Accepting.{accepted-read}
 use Rattle.network.specs.Ready.{Ready, graphOf}
 
@@ -41,7 +41,7 @@ friends-own b net u v e = simp (eq-eqb u v e, and-false)
 pub friends-outside : (b net : List ℕ) (u m : ℕ) → n b ≤ m → graphOf b net .friends u m ≡ false
 friends-outside b net u m l = simp (le-ltb m (n b) l, and-false)
 
-module _ {b : List ℕ} {c : Counts} {net : List ℕ} (h : Ready b c net) where
+module _ {b : List ℕ} {c : Summary} {net : List ℕ} (h : Ready b c net) where
   pub ready-read : ReadAs b c
   ready-read = accepted-read (h .accepted) (h .counts)
 
@@ -112,7 +112,7 @@ stride-next at stride m members e h =
     (omega arith, omega arith)
 
 -- where the settings stand, and how many there are
-module _ {b : List ℕ} {c : Counts} (h : ReadAs b c) {from resources : ℕ}
+module _ {b : List ℕ} {c : Summary} (h : ReadAs b c) {from resources : ℕ}
     (f : from ≡ pairs (c .members)) (e : resources ≡ 2 + c .primitives + c .items) where
   pub settings-end : from + c .members * resources ≡ size (schemeOf b)
   settings-end = rw (f, e, h .counts .members, h .counts .primitives, h .counts .items)

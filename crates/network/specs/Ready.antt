@@ -6,10 +6,10 @@ use Rattle.model.specs.Graph.{Graph}
 use Rattle.model.specs.Network.{held, Valid, world}
 use Rattle.model.specs.SchemeBytes.{schemeOf, Accepted}
 use Rattle.tables.specs.Read.{CountsOf, MarksOf}
-use Rattle.tables.specs.declared.Counts.{Counts}
+use Rattle.tables.specs.declared.Summary.{Summary}
 
 -- the scheme is accepted, c holds what is read once of it, and the network passes 5
-pub record Ready (b : List ℕ) (c : Counts) (net : List ℕ) : Type 0 where
+pub record Ready (b : List ℕ) (c : Summary) (net : List ℕ) : Type 0 where
   pub accepted : Accepted b
   pub counts : CountsOf b c
   pub marks : MarksOf b (c .states) (c .marks)

@@ -1,5 +1,5 @@
 // Reads of a network that passes 5.
-use tables::Counts;
+use tables::Summary;
 ghost use mathlib.Core.Path.{_≡_};
 ghost use Prim.Native.Nat.{_+_, _%_, _<_, _≤_};
 ghost use Rattle.model.specs.Bytes.{bit};
@@ -20,7 +20,7 @@ pub fn pairs(members: usize) -> usize
 }
 
 // How many bytes a network has.
-pub fn size(scheme: &[u8], c: Counts) -> usize
+pub fn size(scheme: &[u8], c: Summary) -> usize
     requires { ⌜ ReadAs (now scheme) c ⌝ }
     ensures { λ r. ⌜ (r ≡ sizeOf (schemeOf (now (scheme .entry)))) × (pairCount (c .members) ≤ r) × (r ≤ 39296) ⌝ }
 {
@@ -28,7 +28,7 @@ pub fn size(scheme: &[u8], c: Counts) -> usize
 }
 
 // The state of two members; 0 where they are one.
-pub fn state(scheme: &[u8], c: Counts, network: &[u8], u: usize, v: usize) -> u8
+pub fn state(scheme: &[u8], c: Summary, network: &[u8], u: usize, v: usize) -> u8
     requires { ⌜ Ready (now scheme) c (now network) × (u < c .members) × (v < c .members) ⌝ }
     ensures { λ r. ⌜ (r ≡ stateOf (held (schemeOf (now (scheme .entry))) (now (network .entry))) u v) × (r < c .states) ⌝ }
 {
@@ -42,7 +42,7 @@ pub fn state(scheme: &[u8], c: Counts, network: &[u8], u: usize, v: usize) -> u8
 }
 
 // The policy number that member m has chosen for resource r.
-pub fn setting(scheme: &[u8], c: Counts, network: &[u8], m: usize, r: usize) -> u8
+pub fn setting(scheme: &[u8], c: Summary, network: &[u8], m: usize, r: usize) -> u8
     requires { ⌜ Ready (now scheme) c (now network) × (m < c .members) × (r < 2 + c .primitives + c .items) ⌝ }
     ensures { λ x. ⌜ (x ≡ held (schemeOf (now (scheme .entry))) (now (network .entry)) .setting m r) × (x < c .policies) ⌝ }
 {
@@ -57,7 +57,7 @@ pub fn marked(marks: u16, q: u8) -> bool
 }
 
 // Whether two members are friends.
-pub fn friends(scheme: &[u8], c: Counts, network: &[u8], u: usize, v: usize) -> bool
+pub fn friends(scheme: &[u8], c: Summary, network: &[u8], u: usize, v: usize) -> bool
     requires { ⌜ Ready (now scheme) c (now network) × (u < c .members) × (v < c .members) ⌝ }
     ensures { λ r. ⌜ r ≡ graphOf (now (scheme .entry)) (now (network .entry)) .friends u v ⌝ }
 {

@@ -1,12 +1,12 @@
 // The next friend who is not seen: pair bytes in their order, so that no place is computed anew for each member.
-use tables::Counts;
+use tables::Summary;
 ghost use Prim.Native.Nat.{_<_, _≤_};
 ghost use lib.ListN.{length};
 ghost use Rattle.network.specs.Ready.{Ready, graphOf};
 ghost use Rattle.next_friend.specs.Next.{Next};
 
 // Below m: their bytes stand side by side.
-fn below(scheme: &[u8], c: Counts, network: &[u8], m: usize, seen: &[u8], from: usize) -> usize
+fn below(scheme: &[u8], c: Summary, network: &[u8], m: usize, seen: &[u8], from: usize) -> usize
     requires { ⌜ Ready (now scheme) c (now network) × (m < c .members) × (c .members ≤ length (now seen)) × (from ≤ m) ⌝ }
     ensures { λ r. ⌜ Next (graphOf (now (scheme .entry)) (now (network .entry))) m (now (seen .entry)) from m r ⌝ }
 {
@@ -24,7 +24,7 @@ fn below(scheme: &[u8], c: Counts, network: &[u8], m: usize, seen: &[u8], from: 
 }
 
 // Above m: the byte of the next stands k further.
-fn above(scheme: &[u8], c: Counts, network: &[u8], m: usize, seen: &[u8], from: usize) -> usize
+fn above(scheme: &[u8], c: Summary, network: &[u8], m: usize, seen: &[u8], from: usize) -> usize
     requires { ⌜ Ready (now scheme) c (now network) × (m < from) × (c .members ≤ length (now seen)) × (from ≤ c .members) ⌝ }
     ensures { λ r. ⌜ Next (graphOf (now (scheme .entry)) (now (network .entry))) m (now (seen .entry)) from (c .members) r ⌝ }
 {
@@ -43,7 +43,14 @@ fn above(scheme: &[u8], c: Counts, network: &[u8], m: usize, seen: &[u8], from: 
 }
 
 // The first friend of m from a member on who is not seen, or the number of members.
-pub fn friend(scheme: &[u8], c: Counts, network: &[u8], m: usize, seen: &[u8], from: usize) -> usize
+pub fn friend(
+    scheme: &[u8],
+    c: Summary,
+    network: &[u8],
+    m: usize,
+    seen: &[u8],
+    from: usize,
+) -> usize
     requires { ⌜ Ready (now scheme) c (now network) × (m < c .members) × (c .members ≤ length (now seen)) × (from ≤ c .members) ⌝ }
     ensures { λ r. ⌜ Next (graphOf (now (scheme .entry)) (now (network .entry))) m (now (seen .entry)) from (c .members) r ⌝ }
 {

@@ -1,7 +1,7 @@
 // Whom a setting admits (document 01, "Policies").
 use relation::Relation;
-use tables::Counts;
 use tables::Rule;
+use tables::Summary;
 ghost use mathlib.Core.Path.{_≡_};
 ghost use mathlib.Core.Logic.{_⊎_};
 ghost use Prim.Native.Nat.{_+_, _<_, _≤_};
@@ -18,7 +18,7 @@ ghost use Rattle.policies.specs.Admission.{Alone, Reads, Admitted, NextR
 // Kind 6: whether the state of u and v is in the set, and u on that side.
 fn in_state(
     scheme: &[u8],
-    c: Counts,
+    c: Summary,
     network: &[u8],
     states: u16,
     side: u8,
@@ -42,7 +42,7 @@ fn in_state(
 // Whether a rule admits accessor v to what owner u has. Set has the policies of lower number that do, if the rule combines.
 fn rule_admits(
     scheme: &[u8],
-    c: Counts,
+    c: Summary,
     network: &[u8],
     relation: Relation,
     rule: Rule,
@@ -74,7 +74,7 @@ fn rule_admits(
 // The policies from a number on, below the count, that admit those so related, as a set.
 fn judged(
     scheme: &[u8],
-    c: Counts,
+    c: Summary,
     network: &[u8],
     relation: Relation,
     u: usize,
@@ -100,7 +100,7 @@ fn judged(
 // The policies from a number on, below the count, that admit accessor v to what owner u has, as a set.
 pub fn admitted(
     scheme: &[u8],
-    c: Counts,
+    c: Summary,
     network: &[u8],
     distances: &[u16],
     rows: &[u64],
@@ -119,7 +119,7 @@ pub fn admitted(
 }
 
 // The first policy that is judged for policy p: p alone, or all up to it where it combines others.
-fn first_judged(scheme: &[u8], c: Counts, p: usize) -> usize
+fn first_judged(scheme: &[u8], c: Summary, p: usize) -> usize
     requires { ⌜ ReadAs (now scheme) c × (p < c .policies) ⌝ }
     ensures { λ r. ⌜ (r ≤ p) × Alone (now (scheme .entry)) r (p + 1) ⌝ }
 {
@@ -132,7 +132,7 @@ fn first_judged(scheme: &[u8], c: Counts, p: usize) -> usize
 // Whether policy p admits accessor v to what owner u has.
 pub fn admits(
     scheme: &[u8],
-    c: Counts,
+    c: Summary,
     network: &[u8],
     distances: &[u16],
     rows: &[u64],
@@ -149,7 +149,14 @@ pub fn admits(
 }
 
 // Whether policy p admits accessor v to what owner u has, where they are one or friends: nothing is prepared for it.
-pub fn admits_friend(scheme: &[u8], c: Counts, network: &[u8], u: usize, v: usize, p: usize) -> bool
+pub fn admits_friend(
+    scheme: &[u8],
+    c: Summary,
+    network: &[u8],
+    u: usize,
+    v: usize,
+    p: usize,
+) -> bool
     requires { ⌜ Ready (now scheme) c (now network) × (u < c .members) × (v < c .members) × ((u ≡ v) ⊎ Friends (graphOf (now scheme) (now network)) u v) × (p < c .policies) ⌝ }
     ensures { λ r. ⌜ Decides r (Admits (graphOf (now (scheme .entry)) (now (network .entry))) (schemeOf (now (scheme .entry)) .policy p) u v) ⌝ }
 {

@@ -1,6 +1,6 @@
 // What policies read of an accessor, computed once for all owners.
-use tables::Counts;
 use tables::Rule;
+use tables::Summary;
 ghost use mathlib.Core.Path.{_≡_};
 ghost use Prim.Native.Nat.{_<_, _≤_};
 ghost use lib.ListN.{length};
@@ -21,7 +21,7 @@ fn reach(rule: Rule) -> usize
 }
 
 // The greatest k of a policy of kind within; 0 where there is none.
-fn farthest(scheme: &[u8], c: Counts) -> usize
+fn farthest(scheme: &[u8], c: Summary) -> usize
     requires { ⌜ ReadAs (now scheme) c ⌝ }
     ensures { λ r. ⌜ Farthest (now (scheme .entry)) (c .policies) r ⌝ }
 {
@@ -38,7 +38,7 @@ fn farthest(scheme: &[u8], c: Counts) -> usize
 }
 
 // Whether one of the policies from a number on, below the count, is of a kind.
-pub fn some_of(scheme: &[u8], c: Counts, from: usize, count: usize, wanted: u8) -> bool
+pub fn some_of(scheme: &[u8], c: Summary, from: usize, count: usize, wanted: u8) -> bool
     requires { ⌜ ReadAs (now scheme) c × (count ≤ c .policies) ⌝ }
     ensures { λ r. ⌜ Decides r (SomeOfKind wanted (now (scheme .entry)) from count) ⌝ }
 {
@@ -55,7 +55,7 @@ pub fn some_of(scheme: &[u8], c: Counts, from: usize, count: usize, wanted: u8) 
 // Computes what depends on accessor v alone, as far as a policy of the scheme reads it.
 pub fn prepare(
     scheme: &[u8],
-    c: Counts,
+    c: Summary,
     network: &[u8],
     v: usize,
     distances: &mut [u16],

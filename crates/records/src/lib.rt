@@ -1,6 +1,6 @@
 // Numbers and records in bytes (document 01, "Scheme").
 ghost use mathlib.Core.Path.{_≡_};
-ghost use Prim.Native.Nat.{_+_, _<_, _≤_, _^_};
+ghost use Prim.Native.Nat.{_+_, _<_, _≤_, _^_, min};
 ghost use lib.ListN.{length};
 ghost use Rattle.model.specs.Decides.{Decides};
 ghost use Rattle.model.specs.Bytes.{two as twoAt, four as fourAt, RecordAt};
@@ -10,6 +10,16 @@ pub fn wide(b: u8) -> usize
     ensures { λ r. ⌜ (r ≡ b) × (r < 256) ⌝ }
 {
     b as usize
+}
+
+// The lesser of two numbers.
+pub fn least(x: usize, y: usize) -> usize
+    ensures { λ r. ⌜ r ≡ min x y ⌝ }
+{
+    if x < y {
+        return x;
+    }
+    y
 }
 
 // The 2-byte number at a place.

@@ -6,7 +6,7 @@ use mathlib.Core.Logic.{_↔_}
 use native.Mathlib.Omega.{arith}
 use Rattle.model.specs.Graph.{Graph, Friends, Within}
 use Rattle.distance.specs.Distances.{Marks}
-use Rattle.tables.specs.declared.Counts.{Counts}
+use Rattle.tables.specs.declared.Summary.{Summary}
 use Rattle.network.specs.Ready.{Ready, graphOf}
 use Rattle.network.proofs.Reading.{ready-range}
 use Rattle.sets.specs.Rows.{AllRows}
@@ -33,7 +33,7 @@ pub near-friend : (g : Graph) (u v : ℕ) → Friends g u v → (k : ℕ) → 1 
 near-friend g u v f k l = (λ h. (omega arith, omega arith), λ h. (v ∷ [], omega arith, (f, refl)))
 
 -- the size, of all rows, is that of the largest clique
-pub sized-by : {b net rows : List ℕ} {c : Counts} {u v size : ℕ} → Ready b c net → AllRows (graphOf b net) rows → CliqueSize rows u v size
+pub sized-by : {b net rows : List ℕ} {c : Summary} {u v size : ℕ} → Ready b c net → AllRows (graphOf b net) rows → CliqueSize rows u v size
     → u < c .members
     → v < c .members
     → (u ≡ v → ⊥)

@@ -1,6 +1,6 @@
 // What policies read of an owner and an accessor (document 01, "Policies", kinds 3 to 5).
 use known::Acquaintance;
-use tables::Counts;
+use tables::Summary;
 ghost use mathlib.Core.Path.{_≡_};
 ghost use mathlib.Core.Bool.{true};
 ghost use mathlib.Core.Logic.{_⊎_};
@@ -27,7 +27,7 @@ pub struct Relation {
 // The acquaintance, where it is asked.
 fn acquaintance(
     scheme: &[u8],
-    c: Counts,
+    c: Summary,
     network: &[u8],
     rows: &[u64],
     u: usize,
@@ -60,7 +60,7 @@ fn clique_size(rows: &[u64], u: usize, v: usize, asked: bool) -> usize
 // The relation of u with accessor v, as far as it is asked, from what is prepared for v.
 pub fn of_prepared(
     scheme: &[u8],
-    c: Counts,
+    c: Summary,
     network: &[u8],
     distances: &[u16],
     rows: &[u64],
@@ -80,7 +80,7 @@ pub fn of_prepared(
 }
 
 // Whether the first common friends of u and v, one chosen after the other, make a clique of five with them.
-fn five_at_once(scheme: &[u8], c: Counts, network: &[u8], u: usize, v: usize) -> bool
+fn five_at_once(scheme: &[u8], c: Summary, network: &[u8], u: usize, v: usize) -> bool
     requires { ⌜ Ready (now scheme) c (now network) × (u < c .members) × (v < c .members) × Friends (graphOf (now scheme) (now network)) u v ⌝ }
     ensures { λ r. ⌜ (r ≡ true → (u ≡ v → ⊥) → LargestClique (graphOf (now (scheme .entry)) (now (network .entry))) u v 5) ⌝ }
 {
@@ -105,7 +105,7 @@ fn no_rows() -> [u64; 1024]
 }
 
 // The size of the largest clique with two friends: five at once, or as the rows of all members tell.
-fn clique_of_friends(scheme: &[u8], c: Counts, network: &[u8], u: usize, v: usize) -> usize
+fn clique_of_friends(scheme: &[u8], c: Summary, network: &[u8], u: usize, v: usize) -> usize
     requires { ⌜ Ready (now scheme) c (now network) × (u < c .members) × (v < c .members) × Friends (graphOf (now scheme) (now network)) u v ⌝ }
     ensures { λ r. ⌜ ((u ≡ v → ⊥) → LargestClique (graphOf (now (scheme .entry)) (now (network .entry))) u v r) ⌝ }
 {
@@ -120,7 +120,7 @@ fn clique_of_friends(scheme: &[u8], c: Counts, network: &[u8], u: usize, v: usiz
 // The relation of members that are one or friends, the clique as far as it is asked: nothing is prepared for it.
 pub fn of_friends(
     scheme: &[u8],
-    c: Counts,
+    c: Summary,
     network: &[u8],
     u: usize,
     v: usize,

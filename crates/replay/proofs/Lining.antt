@@ -9,7 +9,7 @@ use Rattle.model.specs.Calls.{Left}
 use Rattle.model.proofs.Logging.{within}
 use Rattle.kinds.specs.Kinds.{requestOf}
 use Rattle.kinds.specs.declared.Request.{Request as Asked}
-use Rattle.log.specs.Read.{Says, Read}
+use Rattle.log.specs.Read.{SaidAt, Read}
 use Rattle.log.specs.declared.Answer.{Answer}
 use Rattle.log.specs.declared.Answer.the-variants.{Asks}
 use Rattle.replay.specs.Lines.{Lined, Followed}
@@ -21,7 +21,7 @@ pub went : (b log : List ℕ) (k : ℕ) (net out : List ℕ) {said : Answer} {as
     → said ≡ Asks asked → line ≡ Next answer count place → Read log k said place → Left b net (requestOf asked (length out)) out answer count left after
     → Lined b log k net out line after left
 went b log k net out {said} {asked} after left a e r l =
-    let s : Says log k (Asks asked) = rw a at (r .says) in
+    let s : SaidAt log k (Asks asked) = rw a at (r .says) in
     let m = rw a at (r .moves (length out)) in
     rw e (requestOf asked (length out), s (length out), m, l)
 

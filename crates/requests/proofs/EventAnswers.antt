@@ -15,7 +15,7 @@ use Rattle.model.specs.Requests.{event, next, Defined}
 use Rattle.model.specs.Calls.{callNeeds, Called}
 use Rattle.model.proofs.Deciding.{Says, is-eq, negated, is-so}
 use Rattle.scheme.specs.declared.Reading.the-variants.{Accepted, Refused}
-use Rattle.tables.specs.declared.Counts.{Counts}
+use Rattle.tables.specs.declared.Summary.{Summary}
 use Rattle.network.specs.Ready.{worldOf}
 use Rattle.checks.specs.Judged.{judgeNeeds}
 use Rattle.checks.specs.Opened.{Opened}
@@ -48,7 +48,7 @@ module _ {b net : List ℕ} {v u a : ℕ} where
   pub event-refused : {k : ℕ} → Opened b net v u (Refused k) → Called b net (answered (event v u a) k) net
   event-refused {k} h = refused-unchanged b net (event v u a) k (h .1) (refusal-stands b net v u (eventLater b net v u a) k h)
 
-  module _ {c : Counts} (h : Opened b net v u (Accepted c)) where
+  module _ {c : Summary} (h : Opened b net v u (Accepted c)) where
     answer : (k : ℕ) → Answers (eventLater b net v u a) k → Answers (callNeeds b net (event v u a)) k
     answer k r = later-answers b net v u (eventLater b net v u a) k h r
 

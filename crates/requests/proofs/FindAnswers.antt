@@ -7,7 +7,7 @@ use Rattle.model.specs.Finding.{Finds}
 use Rattle.model.specs.Requests.{find}
 use Rattle.model.specs.Calls.{Called}
 use Rattle.scheme.specs.declared.Reading.the-variants.{Accepted, Refused}
-use Rattle.tables.specs.declared.Counts.{Counts}
+use Rattle.tables.specs.declared.Summary.{Summary}
 use Rattle.network.specs.Ready.{worldOf}
 use Rattle.checks.specs.Opened.{Opened}
 use Rattle.checks.proofs.CallAnswers.{refusal-stands, later-answers}
@@ -22,5 +22,5 @@ module _ {b net : List ℕ} {v u k : ℕ} where
   pub find-refused : Opened b net v u (Refused k) → Called b net (answered (find v u) k) net
   find-refused h = asked-unchanged b net (find v u) k refl refl (refusal-stands b net v u (findLater b net v u) k h)
 
-  pub find-judged : {c : Counts} → Opened b net v u (Accepted c) → Answers (findLater b net v u) k → Called b net (answered (find v u) k) net
+  pub find-judged : {c : Summary} → Opened b net v u (Accepted c) → Answers (findLater b net v u) k → Called b net (answered (find v u) k) net
   find-judged h a = asked-unchanged b net (find v u) k refl refl (later-answers b net v u (findLater b net v u) k h a)

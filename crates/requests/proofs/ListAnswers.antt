@@ -12,7 +12,7 @@ use Rattle.model.specs.SchemeBytes.{schemeOf}
 use Rattle.model.specs.Requests.{list, those}
 use Rattle.model.specs.Calls.{callNeeds, FrontOnly}
 use Rattle.scheme.specs.declared.Reading.the-variants.{Accepted, Refused as OpenRefused}
-use Rattle.tables.specs.declared.Counts.{Counts}
+use Rattle.tables.specs.declared.Summary.{Summary}
 use Rattle.network.specs.Ready.{worldOf, graphOf}
 use Rattle.checks.specs.Judged.{judgeNeeds}
 use Rattle.checks.specs.Opened.{Opened}
@@ -25,7 +25,7 @@ abbrev listLater : List ℕ → List ℕ → ℕ → ℕ → ℕ → List Requir
 listLater b net v u places =
     (13, schemeOf b .members ≤ places) ∷ (9, Finds (worldOf b net) v u) ∷ (11, Allows (worldOf b net) u 1 v) ∷ []
 
-module _ (b net : List ℕ) (v u places k : ℕ) {c : Counts} (h : Opened b net v u (Accepted c)) where
+module _ (b net : List ℕ) (v u places k : ℕ) {c : Summary} (h : Opened b net v u (Accepted c)) where
   list-answer : Answers (listLater b net v u places) k → Answers (callNeeds b net (list v u places)) k
   list-answer a = later-answers b net v u (listLater b net v u places) k h a
 
@@ -40,7 +40,7 @@ module _ {b net : List ℕ} {v u : ℕ} {out : List ℕ} where
   pub list-refused : {k : ℕ} → Opened b net v u (OpenRefused k) → ListCalled b net v u out (Refused k) out
   list-refused {k} h = nothing-written k (h .1) (refusal-stands b net v u (listLater b net v u (length out)) k h)
 
-  module _ {c : Counts} (h : Opened b net v u (Accepted c)) where
+  module _ {c : Summary} (h : Opened b net v u (Accepted c)) where
     pub list-13 : length out < c .members → ListCalled b net v u out (Refused 13) out
     list-13 l = nothing-written 13 (omega arith) (list-answer b net v u (length out) 13 h (inl ((λ z. omega (arith, h .0 .counts .members)), refl)))
 

@@ -16,7 +16,7 @@ use Rattle.model.specs.Calls.{callNeeds, Called}
 use Rattle.model.proofs.Bits.{bit-below}
 use Rattle.model.proofs.Deciding.{refused, passed, decided, is-true}
 use Rattle.scheme.specs.declared.Reading.the-variants.{Accepted, Refused}
-use Rattle.tables.specs.declared.Counts.{Counts}
+use Rattle.tables.specs.declared.Summary.{Summary}
 use Rattle.network.proofs.Reading.{ready-read}
 use Rattle.checks.specs.Opened.{Opened}
 use Rattle.checks.proofs.CallAnswers.{refusal-stands, later-answers, one-member}
@@ -27,7 +27,7 @@ use Rattle.requests.proofs.Unchanged.{refused-unchanged}
 abbrev setLater : List ℕ → ℕ → ℕ → List Requirement
 setLater b r p = (7, r < resources (schemeOf b)) ∷ (12, bit (schemeOf b .mask r) p ≡ true) ∷ []
 
-set-answer : (b net : List ℕ) (u r p k : ℕ) {c : Counts} → Opened b net u u (Accepted c) → Answers (setLater b r p) k → Answers (callNeeds b net (set-policy u r p)) k
+set-answer : (b net : List ℕ) (u r p k : ℕ) {c : Summary} → Opened b net u u (Accepted c) → Answers (setLater b r p) k → Answers (callNeeds b net (set-policy u r p)) k
 set-answer b net u r p k h a = one-member b net u (setLater b r p) k (later-answers b net u u (setLater b r p) k h a)
 
 -- the test says that p is in the mask
@@ -40,7 +40,7 @@ module _ {b net : List ℕ} {u r p : ℕ} where
       refused-unchanged b net (set-policy u r p) k (h .1)
       (one-member b net u (setLater b r p) k (refusal-stands b net u u (setLater b r p) k h))
 
-  module _ {c : Counts} (h : Opened b net u u (Accepted c)) where
+  module _ {c : Summary} (h : Opened b net u u (Accepted c)) where
     pub set-7 : (r < 2 + c .primitives + c .items → ⊥) → Called b net (answered (set-policy u r p) 7) net
     set-7 n =
         refused-unchanged b net (set-policy u r p) 7 (omega arith)

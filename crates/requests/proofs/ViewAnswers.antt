@@ -11,7 +11,7 @@ use Rattle.model.specs.SchemeBytes.{schemeOf}
 use Rattle.model.specs.Requests.{view}
 use Rattle.model.specs.Calls.{Called}
 use Rattle.scheme.specs.declared.Reading.the-variants.{Accepted, Refused}
-use Rattle.tables.specs.declared.Counts.{Counts}
+use Rattle.tables.specs.declared.Summary.{Summary}
 use Rattle.network.specs.Ready.{worldOf}
 use Rattle.checks.specs.Judged.{judgeNeeds}
 use Rattle.checks.specs.Opened.{Opened}
@@ -28,7 +28,7 @@ module _ {b net : List ℕ} {v u o : ℕ} where
   pub view-refused : {k : ℕ} → Opened b net v u (Refused k) → Called b net (answered (view v u o) k) net
   view-refused {k} h = asked-unchanged b net (view v u o) k refl refl (refusal-stands b net v u (viewLater b net v u o) k h)
 
-  module _ {c : Counts} (h : Opened b net v u (Accepted c)) where
+  module _ {c : Summary} (h : Opened b net v u (Accepted c)) where
     answer : (k : ℕ) → Answers (viewLater b net v u o) k → Called b net (answered (view v u o) k) net
     answer k a = asked-unchanged b net (view v u o) k refl refl (later-answers b net v u (viewLater b net v u o) k h a)
 

@@ -1,7 +1,7 @@
 // The requests (document 01, "The calls").
 use scheme::Reading;
-use tables::Counts;
 use tables::Resource;
+use tables::Summary;
 ghost use mathlib.Core.Path.{_≡_};
 ghost use Prim.Native.Nat.{_+_, _<_, _≤_};
 ghost use lib.ListN.{length, take};
@@ -21,7 +21,7 @@ pub enum Listed {
 }
 
 // Whether a number names a resource.
-fn is_resource(c: Counts, r: usize) -> bool
+fn is_resource(c: Summary, r: usize) -> bool
     requires { ⌜ InRange c ⌝ }
     ensures { λ x. ⌜ Decides x (r < 2 + c .primitives + c .items) ⌝ }
 {
@@ -53,7 +53,7 @@ pub fn set(scheme: &[u8], network: &mut [u8], u: usize, r: usize, p: usize) -> u
 }
 
 // Writes u's friends in rising order at the front of the output; how many.
-fn write_friends(scheme: &[u8], c: Counts, network: &[u8], u: usize, output: &mut [u16]) -> usize
+fn write_friends(scheme: &[u8], c: Summary, network: &[u8], u: usize, output: &mut [u16]) -> usize
     requires { ⌜ Ready (now scheme) c (now network) × (u < c .members) × (c .members ≤ length (now output)) ⌝ }
     ensures { λ r. ⌜ (take r (now (output .exit)) ≡ those (graphOf (now (scheme .entry)) (now (network .entry)) .friends u) (c .members)) × FrontOnly r (now (output .entry)) (now (output .exit)) ⌝ }
 {
@@ -116,7 +116,7 @@ pub fn list(scheme: &[u8], network: &[u8], v: usize, u: usize, output: &mut [u16
 }
 
 // The next state for the pair of v and u, v using primitive a.
-fn next_state(scheme: &[u8], c: Counts, network: &[u8], v: usize, u: usize, a: usize) -> u8
+fn next_state(scheme: &[u8], c: Summary, network: &[u8], v: usize, u: usize, a: usize) -> u8
     requires { ⌜ Ready (now scheme) c (now network) × (v < c .members) × (u < c .members) × (a < c .primitives) × (v ≡ u → ⊥) ⌝ }
     ensures { λ r. ⌜ r ≡ next (schemeOf (now (scheme .entry))) (held (schemeOf (now (scheme .entry))) (now (network .entry))) v u a ⌝ }
 {

@@ -23,7 +23,7 @@ use Rattle.model.proofs.Sets.{Added, added, left-out, none-in-zero}
 use Rattle.model.proofs.Counting.{count-ext, count-split, count-above}
 use Rattle.model.specs.Network.{pairs, pairPlace, held, stateOf}
 use Rattle.model.specs.SchemeBytes.{n as members, schemeOf}
-use Rattle.tables.specs.declared.Counts.{Counts}
+use Rattle.tables.specs.declared.Summary.{Summary}
 use Rattle.network.specs.Ready.{Ready, graphOf}
 use Rattle.sets.specs.Rows.{rowBit, FriendRow}
 use Rattle.rows.specs.Words.{FirstBits}
@@ -44,7 +44,7 @@ first-next {g} {u} {from} {n} {word} {word'} f a = record {
 pub first-skip : {g : Graph} {u from n word : ℕ} → FirstBits g u from n word → g .friends u (from + n) ≡ false → FirstBits g u from (n + 1) word
 first-skip {n = n} {word = word} f e = first-next f (rw e (left-out word n (f .none-above)))
 
-module _ {b net : List ℕ} {c : Counts} (ready : Ready b c net) where
+module _ {b net : List ℕ} {c : Summary} (ready : Ready b c net) where
   abbrev marks : ℕ
   marks = c .marks
 

@@ -1,21 +1,14 @@
 // Friend rows: one member's, and those of all.
-use tables::Counts;
+use tables::Summary;
 ghost use mathlib.Core.Path.{_≡_};
-ghost use Prim.Native.Nat.{_+_, _<_, _≤_, min};
+ghost use Prim.Native.Nat.{_+_, _<_, _≤_};
 ghost use lib.ListN.{length};
 ghost use Rattle.network.specs.Ready.{Ready, graphOf};
 ghost use Rattle.sets.specs.Rows.{FriendRow, AllRows};
 ghost use Rattle.rows.specs.Words.{FirstBits};
 
-// The lesser of two numbers.
-fn least(x: usize, y: usize) -> usize
-    ensures { λ r. ⌜ r ≡ min x y ⌝ }
-{
-    if x < y { x } else { y }
-}
-
 // The first bits of u's row from a member on, all of members below u: their states stand side by side.
-fn lesser(scheme: &[u8], c: Counts, network: &[u8], u: usize, from: usize, end: usize) -> u64
+fn lesser(scheme: &[u8], c: Summary, network: &[u8], u: usize, from: usize, end: usize) -> u64
     requires { ⌜ Ready (now scheme) c (now network) × (u < c .members) × (from + end ≤ u) × (end ≤ 64) ⌝ }
     ensures { λ r. ⌜ FirstBits (graphOf (now (scheme .entry)) (now (network .entry))) u from end r ⌝ }
 {
@@ -35,7 +28,7 @@ fn lesser(scheme: &[u8], c: Counts, network: &[u8], u: usize, from: usize, end: 
 // next member stands m further.
 fn greater(
     scheme: &[u8],
-    c: Counts,
+    c: Summary,
     network: &[u8],
     u: usize,
     from: usize,
@@ -45,7 +38,7 @@ fn greater(
     requires { ⌜ Ready (now scheme) c (now network) × (u < from + start) × (from ≤ 192) × (start ≤ 64) × FirstBits (graphOf (now scheme) (now network)) u from start below ⌝ }
     ensures { λ r. ⌜ FirstBits (graphOf (now (scheme .entry)) (now (network .entry))) u from 64 r ⌝ }
 {
-    let end = least(c.members, from + 64);
+    let end = records::least(c.members, from + 64);
     let mut bits = below;
     let mut m = from + start;
     let mut at = network::read::pairs(m) + u;
@@ -60,14 +53,14 @@ fn greater(
 }
 
 // The 64 bits of u's row from a member on.
-fn word(scheme: &[u8], c: Counts, network: &[u8], u: usize, from: usize) -> u64
+fn word(scheme: &[u8], c: Summary, network: &[u8], u: usize, from: usize) -> u64
     requires { ⌜ Ready (now scheme) c (now network) × (u < c .members) × (from ≤ 192) ⌝ }
     ensures { λ r. ⌜ FirstBits (graphOf (now (scheme .entry)) (now (network .entry))) u from 64 r ⌝ }
 {
     if u < from {
         return greater(scheme, c, network, u, from, 0, 0);
     }
-    let count = least(u - from, 64);
+    let count = records::least(u - from, 64);
     let bits = lesser(scheme, c, network, u, from, count);
     if count == 64 {
         return bits;
@@ -76,7 +69,7 @@ fn word(scheme: &[u8], c: Counts, network: &[u8], u: usize, from: usize) -> u64
 }
 
 // u's friends.
-pub fn friend_row(scheme: &[u8], c: Counts, network: &[u8], u: usize) -> [u64; 4]
+pub fn friend_row(scheme: &[u8], c: Summary, network: &[u8], u: usize) -> [u64; 4]
     requires { ⌜ Ready (now scheme) c (now network) × (u < c .members) ⌝ }
     ensures { λ r. ⌜ FriendRow (graphOf (now (scheme .entry)) (now (network .entry))) u r ⌝ }
 {
@@ -89,7 +82,7 @@ pub fn friend_row(scheme: &[u8], c: Counts, network: &[u8], u: usize) -> [u64; 4
 }
 
 // Writes the friend rows of all members, four words each.
-pub fn fill_rows(scheme: &[u8], c: Counts, network: &[u8], rows: &mut [u64])
+pub fn fill_rows(scheme: &[u8], c: Summary, network: &[u8], rows: &mut [u64])
     requires { ⌜ Ready (now scheme) c (now network) × (length (now rows) ≡ 1024) ⌝ }
     ensures { λ r. ⌜ (length (now (rows .exit)) ≡ 1024) × AllRows (graphOf (now (scheme .entry)) (now (network .entry))) (now (rows .exit)) ⌝ }
 {

@@ -1,17 +1,17 @@
 // The scheme check (document 01, "Scheme", "Scheme check").
-use tables::Counts;
+use tables::Summary;
 ghost use mathlib.Core.Path.{_≡_};
 ghost use Rattle.tables.specs.Read.{CountsOf, ReadAs, MarksOf};
 ghost use Rattle.scheme.specs.Checked.{Checked, numberOf};
 
 // What the scheme check answers: the counts of an accepted scheme, or the refusal's number.
 pub enum Reading {
-    Accepted(Counts),
+    Accepted(Summary),
     Refused(u8),
 }
 
 // The counts with the states that make friends.
-fn marked(scheme: &[u8], c: Counts) -> Counts
+fn marked(scheme: &[u8], c: Summary) -> Summary
     requires { ⌜ ReadAs (now scheme) c ⌝ }
     ensures { λ r. ⌜ CountsOf (now (scheme .entry)) r × MarksOf (now (scheme .entry)) (r .states) (r .marks) ⌝ }
 {

@@ -1,5 +1,5 @@
 // Where chains begin (document 01, "Finding"): whom a setting admits, and at which members a walk starts.
-use tables::Counts;
+use tables::Summary;
 ghost use mathlib.Core.Path.{_≡_};
 ghost use Prim.Native.Nat.{ℕ, _+_, _<_};
 ghost use lib.ListN.{length, getD};
@@ -12,7 +12,7 @@ ghost use Rattle.starts.specs.Starts.{Begun, SearchAdded};
 // Whether u's setting for resource r admits v.
 pub fn allows(
     scheme: &[u8],
-    c: Counts,
+    c: Summary,
     network: &[u8],
     distances: &[u16],
     rows: &[u64],
@@ -35,7 +35,7 @@ pub fn unseen() -> [u8; 256]
 }
 
 // Marks the viewer and its friends as waiting.
-pub fn begin(scheme: &[u8], c: Counts, network: &[u8], v: usize, seen: &mut [u8])
+pub fn begin(scheme: &[u8], c: Summary, network: &[u8], v: usize, seen: &mut [u8])
     requires { ⌜ Ready (now scheme) c (now network) × (v < c .members) × (length (now seen) ≡ 256) × ((k : ℕ) → getD (now seen) k 0 ≡ 0) ⌝ }
     ensures { λ r. ⌜ Begun (worldOf (now (scheme .entry)) (now (network .entry))) v (now (seen .exit)) ⌝ }
 {
@@ -53,7 +53,7 @@ pub fn begin(scheme: &[u8], c: Counts, network: &[u8], v: usize, seen: &mut [u8]
 // the viewer, and is not asked again.
 pub fn search(
     scheme: &[u8],
-    c: Counts,
+    c: Summary,
     network: &[u8],
     distances: &[u16],
     rows: &[u64],

@@ -1,6 +1,6 @@
 // What strangers may do under a fresh network (document 01, "Scheme check", refusal 4).
-use tables::Counts;
 use tables::Rule;
+use tables::Summary;
 ghost use Prim.Native.Nat.{ℕ, _≤_};
 ghost use Rattle.model.specs.Decides.{Decides};
 ghost use Rattle.model.specs.Policies.{OnSide, Admits};
@@ -35,7 +35,7 @@ fn rule_admits(scheme: &[u8], rule: Rule, p: usize, side: u8, set: u32) -> bool
 }
 
 // The policies that admit an accessor on that side of the owner, among strangers, as a set.
-fn admitting(scheme: &[u8], c: Counts, side: u8) -> u32
+fn admitting(scheme: &[u8], c: Summary, side: u8) -> u32
     requires { ⌜ ReadAs (now scheme) c × (1 ≤ side) × (side ≤ 2) ⌝ }
     ensures { λ r. ⌜ AdmitsStranger (now (scheme .entry)) side r (c .policies) ⌝ }
 {
@@ -52,7 +52,7 @@ fn admitting(scheme: &[u8], c: Counts, side: u8) -> u32
 }
 
 // Whether state 0 makes no friends and the lowest search policy admits no stranger.
-pub fn apart(scheme: &[u8], c: Counts) -> bool
+pub fn apart(scheme: &[u8], c: Summary) -> bool
     requires { ⌜ ReadAs (now scheme) c ⌝ }
     ensures { λ r. ⌜ Decides r (StrangersApart (now (scheme .entry))) ⌝ }
 {

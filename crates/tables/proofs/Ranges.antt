@@ -9,24 +9,24 @@ use lib.ListN.{length}
 use Rattle.model.specs.SchemeBytes.{S, A, at4, at5, schemeOf, CountsFit}
 use Rattle.model.specs.Bytes.{byte}
 use Rattle.tables.specs.Read.{CountsOf, InRange, ReadAs}
-use Rattle.tables.specs.declared.Counts.{Counts}
+use Rattle.tables.specs.declared.Summary.{Summary}
 
 -- the body of kind 2
-pub moves-small : (c : Counts) → InRange c → c .states * 2 * c .primitives ≤ 256
+pub moves-small : (c : Summary) → InRange c → c .states * 2 * c .primitives ≤ 256
 moves-small c g =
     let s : c .states * 2 ≤ 32 = omega arith in
     let p : c .primitives ≤ 8 = omega arith in
     let m : c .states * 2 * c .primitives ≤ 32 * 8 = mul-le-mul s p in
     omega arith
 
-pub moves-size : (b : List ℕ) (c : Counts) → CountsOf b c → c .states * 2 * c .primitives ≡ S b * 2 * A b
+pub moves-size : (b : List ℕ) (c : Summary) → CountsOf b c → c .states * 2 * c .primitives ≡ S b * 2 * A b
 moves-size b c k = rw (k .states, k .primitives)
 
 -- the next state's place is small, and in the body of kind 2
-abbrev pub Small : List ℕ → Counts → ℕ → ℕ → ℕ → Type 0
+abbrev pub Small : List ℕ → Summary → ℕ → ℕ → ℕ → Type 0
 Small b c q s a = ((q * 2 + s) * c .primitives + a ≤ 256) × (14 + ((q * 2 + s) * c .primitives + a) < length b)
 
-module _ (b : List ℕ) (c : Counts) (g : ReadAs b c) (q s a : ℕ) (x : q < c .states) (y : s < 2) (z : a < c .primitives) where
+module _ (b : List ℕ) (c : Summary) (g : ReadAs b c) (q s a : ℕ) (x : q < c .states) (y : s < 2) (z : a < c .primitives) where
   pub move-small : Small b c q s a
   move-small =
       let l : q * 2 + s < c .states * 2 = digits-lt x y in
@@ -38,13 +38,13 @@ module _ (b : List ℕ) (c : Counts) (g : ReadAs b c) (q s a : ℕ) (x : q < c .
   move-is = rw (g .counts .primitives)
 
 -- a policy's four bytes and a mask's are there
-pub policy-there : (b : List ℕ) (c : Counts) → ReadAs b c → (p : ℕ) → p < c .policies → at4 b + 4 + p * 4 + 3 < length b
+pub policy-there : (b : List ℕ) (c : Summary) → ReadAs b c → (p : ℕ) → p < c .policies → at4 b + 4 + p * 4 + 3 < length b
 policy-there b c g p l = omega (arith, g .records .policies .0, g .counts .policies)
 
-pub mask-there : (b : List ℕ) (c : Counts) → ReadAs b c → (r : ℕ) → r < 2 + c .primitives + c .items → at5 b + 4 + r * 4 + 3 < length b
+pub mask-there : (b : List ℕ) (c : Summary) → ReadAs b c → (r : ℕ) → r < 2 + c .primitives + c .items → at5 b + 4 + r * 4 + 3 < length b
 mask-there b c g r l = omega (arith, g .records .masks .0, g .counts .primitives, g .counts .items)
 
-pub counts-fit : (b : List ℕ) (c : Counts) → CountsOf b c → InRange c → CountsFit b
+pub counts-fit : (b : List ℕ) (c : Summary) → CountsOf b c → InRange c → CountsFit b
 counts-fit b c k g = record {
   members = omega arith;
   states = omega arith;
@@ -53,7 +53,7 @@ counts-fit b c k g = record {
   policies = omega arith;
 }
 
-pub counts-in : (b : List ℕ) (c : Counts) → CountsOf b c → CountsFit b → InRange c
+pub counts-in : (b : List ℕ) (c : Summary) → CountsOf b c → CountsFit b → InRange c
 counts-in b c k g = record {
   members = omega arith;
   states = omega arith;

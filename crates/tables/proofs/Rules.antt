@@ -11,7 +11,7 @@ use Rattle.model.specs.SchemeBytes.{S, at4, field, policyOf, PolicyFits, scheme
 use Rattle.model.proofs.Decoding.{policy-at}
 use Rattle.tables.specs.Read.{ReadAs}
 use Rattle.tables.specs.Rules.{kindOf, RuleOf, RuleAt}
-use Rattle.tables.specs.declared.Counts.{Counts}
+use Rattle.tables.specs.declared.Summary.{Summary}
 use Rattle.tables.specs.declared.Rule.{Rule}
 
 pub record ByKind (p kind k left right : ℕ) : Type 0 where
@@ -37,7 +37,7 @@ module _ (S p kind k left right : ℕ) where
   by-state (inr (inr (inr (inr h)))) e = absurd (omega arith)
 
 -- the rule of the bytes where policy p stands is policy p
-pub rule-at : (b : List ℕ) (c : Counts) (p at : ℕ) (rule : Rule) → ReadAs b c → p < c .policies → at ≡ at4 b + 4 + p * 4
+pub rule-at : (b : List ℕ) (c : Summary) (p at : ℕ) (rule : Rule) → ReadAs b c → p < c .policies → at ≡ at4 b + 4 + p * 4
     → RuleOf (byte b at) (byte b (at + 1)) (byte b (at + 2)) (byte b (at + 3)) rule → RuleAt b p rule
 rule-at b c p at rule g l e r =
     let fit = g .bytes .policies p (omega (arith, g .counts .policies)) in
@@ -61,7 +61,7 @@ kind-of lower (suc (suc (suc (suc (suc (suc (suc zero))))))) k left right h = re
 kind-of lower (suc (suc (suc (suc (suc (suc (suc (suc zero)))))))) k left right h = refl
 kind-of lower (suc (suc (suc (suc (suc (suc (suc (suc (suc n))))))))) k left right h = absurd (omega arith)
 
-pub kind-at : (b : List ℕ) (c : Counts) (p at : ℕ) → ReadAs b c → p < c .policies → at ≡ at4 b + 4 + p * 4 → byte b at ≡ kindOf (schemeOf b .policy p)
+pub kind-at : (b : List ℕ) (c : Summary) (p at : ℕ) → ReadAs b c → p < c .policies → at ≡ at4 b + 4 + p * 4 → byte b at ≡ kindOf (schemeOf b .policy p)
 kind-at b c p at g l e =
     let fit = g .bytes .policies p (omega (arith, g .counts .policies)) in
     let known = by-kind (S b) p (field b p 0) (field b p 1) (field b p 2) (field b p 3) fit .known in
@@ -74,7 +74,7 @@ same-k : (j k : ℕ) → within j ≡ within k → j ≡ k
 same-k j k e = cc
 
 -- the k of a policy of kind within is at least 1
-pub within-positive : (b : List ℕ) (c : Counts) → ReadAs b c → (p k : ℕ) → p < c .policies → schemeOf b .policy p ≡ within k → 1 ≤ k
+pub within-positive : (b : List ℕ) (c : Summary) → ReadAs b c → (p k : ℕ) → p < c .policies → schemeOf b .policy p ≡ within k → 1 ≤ k
 within-positive b c g p k l e =
     let fit = g .bytes .policies p (omega (arith, g .counts .policies)) in
     let by = by-kind (S b) p (field b p 0) (field b p 1) (field b p 2) (field b p 3) fit in

@@ -4,10 +4,10 @@ use mathlib.Core.Path.{_≡_}
 use mathlib.Core.List.{List}
 use Rattle.model.specs.Bytes.{bit, NoBitFrom}
 use Rattle.model.specs.SchemeBytes.{n, S, A, I, P, Records, BytesFit, schemeOf}
-use Rattle.tables.specs.declared.Counts.{Counts}
+use Rattle.tables.specs.declared.Summary.{Summary}
 
 -- c holds the five counts of the bytes' head record
-pub record CountsOf (b : List ℕ) (c : Counts) : Type 0 where
+pub record CountsOf (b : List ℕ) (c : Summary) : Type 0 where
   pub members : c .members ≡ n b
   pub states : c .states ≡ S b
   pub primitives : c .primitives ≡ A b
@@ -15,7 +15,7 @@ pub record CountsOf (b : List ℕ) (c : Counts) : Type 0 where
   pub policies : c .policies ≡ P b
 
 -- each count is in its range
-pub record InRange (c : Counts) : Type 0 where
+pub record InRange (c : Summary) : Type 0 where
   pub members : (1 ≤ c .members) × (c .members ≤ 256)
   pub states : (1 ≤ c .states) × (c .states ≤ 16)
   pub primitives : (1 ≤ c .primitives) × (c .primitives ≤ 8)
@@ -23,7 +23,7 @@ pub record InRange (c : Counts) : Type 0 where
   pub policies : (1 ≤ c .policies) × (c .policies ≤ 32)
 
 -- the bytes pass the scheme check up to 3, and c holds their counts: what the reads of a scheme rest on
-pub record ReadAs (b : List ℕ) (c : Counts) : Type 0 where
+pub record ReadAs (b : List ℕ) (c : Summary) : Type 0 where
   pub counts : CountsOf b c
   pub range : InRange c
   pub records : Records b

@@ -9,7 +9,7 @@ ghost use Rattle.tables.specs.Read.{CountsOf, InRange, ReadAs, MarksOf};
 ghost use Rattle.tables.specs.Rules.{kindOf, RuleOf, RuleAt, ResourceOf};
 
 // What is read once of a scheme: the five counts of its head record, and the states that make friends, as a set.
-pub struct Counts {
+pub struct Summary {
     pub members: usize,
     pub states: usize,
     pub primitives: usize,
@@ -41,7 +41,7 @@ pub enum Resource {
 }
 
 // Where the body of kind 3 begins.
-pub fn marks_at(c: Counts) -> usize
+pub fn marks_at(c: Summary) -> usize
     requires { ⌜ InRange c ⌝ }
     ensures { λ r. ⌜ (18 ≤ r) × (r ≤ 274) × ((b : List ℕ) → CountsOf b c → r ≡ at3 b + 4) ⌝ }
 {
@@ -49,7 +49,7 @@ pub fn marks_at(c: Counts) -> usize
 }
 
 // Where the body of kind 4 begins.
-pub fn policies_at(c: Counts) -> usize
+pub fn policies_at(c: Summary) -> usize
     requires { ⌜ InRange c ⌝ }
     ensures { λ r. ⌜ (r ≤ 294) × ((b : List ℕ) → CountsOf b c → r ≡ at4 b + 4) ⌝ }
 {
@@ -57,7 +57,7 @@ pub fn policies_at(c: Counts) -> usize
 }
 
 // Where the body of kind 5 begins.
-pub fn masks_at(c: Counts) -> usize
+pub fn masks_at(c: Summary) -> usize
     requires { ⌜ InRange c ⌝ }
     ensures { λ r. ⌜ (r ≤ 426) × ((b : List ℕ) → CountsOf b c → r ≡ at5 b + 4) ⌝ }
 {
@@ -65,7 +65,7 @@ pub fn masks_at(c: Counts) -> usize
 }
 
 // How many resources there are.
-pub fn resources(c: Counts) -> usize
+pub fn resources(c: Summary) -> usize
     requires { ⌜ InRange c ⌝ }
     ensures { λ r. ⌜ (r ≡ 2 + c .primitives + c .items) × (r ≤ 26) ⌝ }
 {
@@ -73,7 +73,7 @@ pub fn resources(c: Counts) -> usize
 }
 
 // What a resource number names.
-pub fn classify(c: Counts, r: usize) -> Resource
+pub fn classify(c: Summary, r: usize) -> Resource
     requires { ⌜ InRange c ⌝ }
     ensures { λ x. ⌜ ResourceOf (c .primitives) (c .items) r x ⌝ }
 {
@@ -97,7 +97,7 @@ pub fn classify(c: Counts, r: usize) -> Resource
 }
 
 // The next state for a state, a side and a primitive; 255 is undefined.
-pub fn next_state(s: &[u8], c: Counts, state: usize, side: usize, primitive: usize) -> u8
+pub fn next_state(s: &[u8], c: Summary, state: usize, side: usize, primitive: usize) -> u8
     requires { ⌜ ReadAs (now s) c × (state < c .states) × (side < 2) × (primitive < c .primitives) ⌝ }
     ensures { λ r. ⌜ r ≡ schemeOf (now (s .entry)) .move state side primitive ⌝ }
 {
@@ -105,7 +105,7 @@ pub fn next_state(s: &[u8], c: Counts, state: usize, side: usize, primitive: usi
 }
 
 // The states that make friends, as a set.
-pub fn marks(s: &[u8], c: Counts) -> u16
+pub fn marks(s: &[u8], c: Summary) -> u16
     requires { ⌜ ReadAs (now s) c ⌝ }
     ensures { λ r. ⌜ MarksOf (now (s .entry)) (c .states) r ⌝ }
 {
@@ -122,7 +122,7 @@ pub fn marks(s: &[u8], c: Counts) -> u16
 }
 
 // The policies that may be chosen for a resource.
-pub fn mask(s: &[u8], c: Counts, r: usize) -> u32
+pub fn mask(s: &[u8], c: Summary, r: usize) -> u32
     requires { ⌜ ReadAs (now s) c × (r < 2 + c .primitives + c .items) ⌝ }
     ensures { λ x. ⌜ (x ≡ schemeOf (now (s .entry)) .mask r) × (1 ≤ x) ⌝ }
 {
@@ -171,7 +171,7 @@ fn decode(kind: u8, k: u8, left: u8, right: u8) -> Rule
 }
 
 // The number of policy p's kind.
-pub fn kind(s: &[u8], c: Counts, p: usize) -> u8
+pub fn kind(s: &[u8], c: Summary, p: usize) -> u8
     requires { ⌜ ReadAs (now s) c × (p < c .policies) ⌝ }
     ensures { λ r. ⌜ r ≡ kindOf (schemeOf (now (s .entry)) .policy p) ⌝ }
 {
@@ -179,7 +179,7 @@ pub fn kind(s: &[u8], c: Counts, p: usize) -> u8
 }
 
 // Policy p.
-pub fn policy(s: &[u8], c: Counts, p: usize) -> Rule
+pub fn policy(s: &[u8], c: Summary, p: usize) -> Rule
     requires { ⌜ ReadAs (now s) c × (p < c .policies) ⌝ }
     ensures { λ r. ⌜ RuleAt (now (s .entry)) p r ⌝ }
 {

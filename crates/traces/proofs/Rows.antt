@@ -6,22 +6,22 @@ use native.Mathlib.Omega.{arith}
 use native.Mathlib.Decide.{decLe}
 use lib.ListN.{length, getD, take, drop, set, take-append-drop, length-drop}
 use lib.Seq.{length-take-le, take-append-le, drop-append-le, take-at, drop-at, take-take, drop-drop, getD-take, getD-drop, getD-set-same, getD-set-other}
-use Rattle.traces.specs.Ran.{rowOf, listsOf}
+use Rattle.traces.specs.Ran.{placesOf, listsOf}
 
-before : (front behind : List ℕ) (m : ℕ) → 256 * m + 256 ≤ length front → rowOf (front ++ behind) m ≡ rowOf front m
+before : (front behind : List ℕ) (m : ℕ) → 256 * m + 256 ≤ length front → placesOf (front ++ behind) m ≡ placesOf front m
 before front behind m h =
     ap (λ (l : List ℕ). take 256 l) (drop-append-le (256 * m) front behind (omega arith))
     ∙ take-append-le 256 (drop (256 * m) front) behind (omega (arith, length-drop (256 * m) front))
 
-front : (l : List ℕ) (at m : ℕ) → 256 * m + 256 ≤ at → at ≤ length l → rowOf (take at l) m ≡ rowOf l m
+front : (l : List ℕ) (at m : ℕ) → 256 * m + 256 ≤ at → at ≤ length l → placesOf (take at l) m ≡ placesOf l m
 front l at m h b =
     let e : length (take at l) ≡ at = length-take-le at l b in
-    sym (before (take at l) (drop at l) m (omega arith)) ∙ ap (λ (k : List ℕ). rowOf k m) (take-append-drop at l)
+    sym (before (take at l) (drop at l) m (omega arith)) ∙ ap (λ (k : List ℕ). placesOf k m) (take-append-drop at l)
 
 row-kept : (lists left : List ℕ) (at m : ℕ) → 256 * m + 256 ≤ at → at ≤ length lists → length left ≡ length lists → take at left ≡ take at lists
-    → rowOf left m ≡ rowOf lists m
+    → placesOf left m ≡ placesOf lists m
 row-kept lists left at m h b s e =
-    sym (front left at m h (omega arith)) ∙ ap (λ (l : List ℕ). rowOf l m) e ∙ front lists at m h b
+    sym (front left at m h (omega arith)) ∙ ap (λ (l : List ℕ). placesOf l m) e ∙ front lists at m h b
 
 -- a part of the places is written: row stands in its place
 module _ (lists row : List ℕ) (at size count : ℕ) (inside : at ≤ length lists) (short : count ≤ length row) where
@@ -53,7 +53,7 @@ module _ (lists row : List ℕ) (at size count : ℕ) (inside : at ≤ length li
       ∙ drop-drop count at lists
 
 pub lists-kept : (counts counts' lists lists' : List ℕ) (n : ℕ) → ((m : ℕ) → m < n → getD counts' m 0 ≡ getD counts m 0)
-    → ((m : ℕ) → m < n → rowOf lists' m ≡ rowOf lists m)
+    → ((m : ℕ) → m < n → placesOf lists' m ≡ placesOf lists m)
     → listsOf counts' lists' n ≡ listsOf counts lists n
 unfolding listsOf
 lists-kept counts counts' lists lists' zero f g = refl
@@ -62,7 +62,7 @@ lists-kept counts counts' lists lists' (suc n) f g =
 
 pub lists-written : (counts lists left : List ℕ) (n count : ℕ) → n < length counts → 256 * n ≤ length lists → length left ≡ length lists
     → take (256 * n) left ≡ take (256 * n) lists
-    → listsOf (set counts n count) left (suc n) ≡ listsOf counts lists n ++ take count (rowOf left n) ∷ []
+    → listsOf (set counts n count) left (suc n) ≡ listsOf counts lists n ++ take count (placesOf left n) ∷ []
 unfolding listsOf
 lists-written counts lists left n count a b s e =
     rw (

@@ -15,7 +15,7 @@ use Rattle.model.proofs.Leaving.{drop-more}
 use Rattle.kinds.specs.Kinds.{requestOf}
 use Rattle.kinds.specs.declared.Request.{Request as Asked}
 use Rattle.traces.specs.Cite.{CallOf, CallMade}
-use Rattle.traces.specs.Ran.{decoded, requestAt, asked, rowOf, listsOf, answersOf, writtenOf, Turned, Kept, Ran}
+use Rattle.traces.specs.Ran.{decoded, requestAt, asked, placesOf, listsOf, answersOf, writtenOf, Turned, Kept, Ran}
 use Rattle.traces.proofs.Made.{made}
 use Rattle.traces.proofs.Sound.{sound}
 use Rattle.traces.proofs.Refusing.{all-refused}
@@ -95,7 +95,7 @@ module _ (b before encoded answers counts lists net : List ℕ) (n : ℕ) where
       → SoFar b before encoded (n + 1) (set answers n k) (set counts n count) left after
   unfolding asked
   then k count left after a c l m s (h, e, f) =
-      let t : Turn = record { request = requestAt encoded n; answer = k; written = take count (rowOf left n) } in
+      let t : Turn = record { request = requestAt encoded n; answer = k; written = take count (placesOf left n) } in
       rw add-one
       (record {
         trace = s .trace ++ (t, after) ∷ [];

@@ -31,13 +31,13 @@ asked l zero = []
 asked l (suc n) = asked l n ++ requestAt l n ∷ []
 
 -- the nth 256 places
-abbrev pub rowOf : List ℕ → ℕ → List ℕ
-rowOf lists n = take 256 (drop (256 * n) lists)
+abbrev pub placesOf : List ℕ → ℕ → List ℕ
+placesOf lists n = take 256 (drop (256 * n) lists)
 
 -- the first n lists: each stands at the front of its places, as many as counted
 unfoldable pub listsOf : List ℕ → List ℕ → ℕ → List (List ℕ)
 listsOf counts lists zero = []
-listsOf counts lists (suc n) = listsOf counts lists n ++ take (getD counts n 0) (rowOf lists n) ∷ []
+listsOf counts lists (suc n) = listsOf counts lists n ++ take (getD counts n 0) (placesOf lists n) ∷ []
 
 abbrev pub answersOf : List Turn → List ℕ
 answersOf [] = []
@@ -50,7 +50,7 @@ writtenOf (t ∷ ts) = t .written ∷ writtenOf ts
 -- request n: its list stands at the front of the nth places, and all other places are as they were
 abbrev pub Turned : List ℕ → List ℕ → List ℕ → ℕ → List ℕ → ℕ → ℕ → List ℕ → List ℕ → Type 0
 Turned b net encoded n lists answer count left after =
-    CallOf b net (requestAt encoded n) answer (take count (rowOf left n)) after
+    CallOf b net (requestAt encoded n) answer (take count (placesOf left n)) after
     × (take (256 * n) left ≡ take (256 * n) lists)
     × (drop (256 * n + count) left ≡ drop (256 * n + count) lists)
 

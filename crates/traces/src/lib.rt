@@ -44,15 +44,6 @@ fn wide(x: u16) -> usize
     x as usize
 }
 
-fn least(x: usize, y: usize) -> usize
-    ensures { λ r. ⌜ r ≡ min x y ⌝ }
-{
-    if x < y {
-        return x;
-    }
-    y
-}
-
 // Request n of the encoded ones.
 fn turn(scheme: &[u8], network: &mut [u8], encoded: &[u16], n: usize, lists: &mut [u16]) -> Reply
     requires { ⌜ (4 * n + 4 ≤ length (now encoded)) × (256 * n + 256 ≤ length (now lists)) ⌝ }
@@ -64,7 +55,7 @@ fn turn(scheme: &[u8], network: &mut [u8], encoded: &[u16], n: usize, lists: &mu
     let z = wide(encoded[4 * n + 3]);
     let request = decode(kind, x, y, z);
     let start = 256 * n;
-    let end = start + least(z, 256);
+    let end = start + records::least(z, 256);
     calls::call(scheme, network, request, &mut lists[start..end])
 }
 
@@ -72,9 +63,9 @@ fn turn(scheme: &[u8], network: &mut [u8], encoded: &[u16], n: usize, lists: &mu
 fn room(encoded: &[u16], answers: &[u8], counts: &[usize], lists: &[u16]) -> usize
     ensures { λ r. ⌜ r ≡ fitting (now (encoded .entry)) (now (answers .entry)) (now (counts .entry)) (now (lists .entry)) ⌝ }
 {
-    least(
-        least(encoded.len() / 4, answers.len()),
-        least(counts.len(), lists.len() / 256),
+    records::least(
+        records::least(encoded.len() / 4, answers.len()),
+        records::least(counts.len(), lists.len() / 256),
     )
 }
 

@@ -18,7 +18,7 @@ use Rattle.model.proofs.Deciding.{Says, says, iff}
 use Rattle.model.proofs.Held.{held-state, held-setting}
 use Rattle.model.proofs.Places.{pair-onto, pair-before, setting-onto, setting-before}
 use Rattle.tables.specs.Read.{ReadAs}
-use Rattle.tables.specs.declared.Counts.{Counts}
+use Rattle.tables.specs.declared.Summary.{Summary}
 
 -- ---- the greatest of the bytes from one place up to another
 
@@ -70,14 +70,14 @@ column-more {s} {at} {stride} {mask} {m} {all} {k} e b g =
 -- ---- the settings of a network
 
 -- each member's setting for a resource is in its mask; and so for each resource
-abbrev pub ColumnOffered : List ℕ → Counts → List ℕ → ℕ → Type 0
+abbrev pub ColumnOffered : List ℕ → Summary → List ℕ → ℕ → Type 0
 ColumnOffered b c net r = (m : ℕ) → m < c .members → bit (schemeOf b .mask r) (byte net (settingPlace (schemeOf b) m r)) ≡ true
 
-abbrev pub Offered : List ℕ → Counts → List ℕ → Type 0
+abbrev pub Offered : List ℕ → Summary → List ℕ → Type 0
 Offered b c net =
     (m r : ℕ) → m < c .members → r < 2 + c .primitives + c .items → bit (schemeOf b .mask r) (byte net (settingPlace (schemeOf b) m r)) ≡ true
 
-module _ {b : List ℕ} {c : Counts} (h : ReadAs b c) {from resources : ℕ}
+module _ {b : List ℕ} {c : Summary} (h : ReadAs b c) {from resources : ℕ}
     (f : from ≡ pairs (c .members)) (e : resources ≡ 2 + c .primitives + c .items) where
   pub setting-at : (m r : ℕ) → from + r + m * resources ≡ settingPlace (schemeOf b) m r
   setting-at m r = rw (f, e, h .counts .members, h .counts .primitives, h .counts .items) (omega arith)
@@ -93,7 +93,7 @@ module _ {b : List ℕ} {c : Counts} (h : ReadAs b c) {from resources : ℕ}
 
 -- ---- validity byte by byte
 
-module _ {b : List ℕ} {c : Counts} (net : List ℕ) (h : ReadAs b c) where
+module _ {b : List ℕ} {c : Summary} (net : List ℕ) (h : ReadAs b c) where
   pub valid-states : Valid (schemeOf b) net → (k : ℕ) → k < pairs (c .members) → byte net k < c .states
   valid-states v k l =
       let (i, j, a, d, e) = pair-onto (schemeOf b .members) k (rw (h .counts .members) at l) in

@@ -1,5 +1,5 @@
 // Whether a network passes 5.
-use tables::Counts;
+use tables::Summary;
 ghost use mathlib.Core.Path.{_≡_};
 ghost use mathlib.Core.Bool.{true};
 ghost use Prim.Native.Nat.{ℕ, _+_, _*_, _<_, _≤_};
@@ -45,7 +45,7 @@ fn column_offered(s: &[u8], at: usize, stride: usize, members: usize, mask: u32)
 }
 
 // Whether every setting is in its resource's mask.
-fn settings_offered(scheme: &[u8], c: Counts, network: &[u8]) -> bool
+fn settings_offered(scheme: &[u8], c: Summary, network: &[u8]) -> bool
     requires { ⌜ ReadAs (now scheme) c × (length (now network) ≡ size (schemeOf (now scheme))) ⌝ }
     requires { ⌜ ((k : ℕ) → pairCount (c .members) ≤ k → k < length (now network) → byte (now network) k < 32) ⌝ }
     ensures { λ x. ⌜ Decides x ((m r : ℕ) → m < c .members → r < 2 + c .primitives + c .items → bit (schemeOf (now (scheme .entry)) .mask r) (byte (now (network .entry)) (settingPlace (schemeOf (now (scheme .entry))) m r)) ≡ true) ⌝ }
@@ -64,7 +64,7 @@ fn settings_offered(scheme: &[u8], c: Counts, network: &[u8]) -> bool
 }
 
 // Whether neither length nor any byte of a network is off.
-pub fn valid(scheme: &[u8], c: Counts, network: &[u8]) -> bool
+pub fn valid(scheme: &[u8], c: Summary, network: &[u8]) -> bool
     requires { ⌜ ReadAs (now scheme) c ⌝ }
     ensures { λ r. ⌜ Decides r (Valid (schemeOf (now (scheme .entry))) (now (network .entry))) ⌝ }
 {

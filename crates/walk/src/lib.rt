@@ -1,7 +1,7 @@
 // The walk outward from the members that wait (document 01, "Finding").
-use tables::Counts;
+use tables::Summary;
 ghost use mathlib.Core.Path.{_≡_};
-ghost use Prim.Native.Nat.{_<_, _≤_, min};
+ghost use Prim.Native.Nat.{_<_, _≤_};
 ghost use lib.ListN.{length};
 ghost use Rattle.network.specs.Ready.{Ready, worldOf};
 ghost use Rattle.prepared.specs.Prepared.{Prepared};
@@ -37,17 +37,10 @@ fn first_unseen(members: usize, seen: &[u8], from: usize) -> usize
     k
 }
 
-// The lesser of two numbers.
-fn least(x: usize, y: usize) -> usize
-    ensures { λ r. ⌜ r ≡ min x y ⌝ }
-{
-    if x < y { x } else { y }
-}
-
 // Expands members until u is met or no member is left to expand. Nobody below low waits, everyone below first is seen.
 pub fn walk(
     scheme: &[u8],
-    c: Counts,
+    c: Summary,
     network: &[u8],
     distances: &[u16],
     rows: &[u64],
@@ -75,7 +68,7 @@ pub fn walk(
                     break 'walk true;
                 }
                 seen[k] = 1;
-                low = least(low, k);
+                low = records::least(low, k);
                 k = next_friend::friend(scheme, c, network, m, seen, k + 1);
             }
         }

@@ -1,6 +1,5 @@
 use mathlib.Core.Path.{_≡_}
-use Rattle.model.proofs.Deciding.{said-yes}
-use Rattle.checks.proofs.NearFound.{near-found}
+use Rattle.checks.proofs.NearFound.{near-found, told-near}
 use borrow.Author.Needs.{needs}
 use Rattle.checks.proofs.found.Statement.{statement}
 use Rattle.checks.proofs.found.Tie as tie
@@ -11,7 +10,7 @@ near-requires c κs = search needs
 returns : tie.Need-returns
 returns c =
     let s = c .before .before .before .before in
-    near-found (s .pre .0) (s .args .v) (s .args .u) (s .pre .2) (said-yes (c .if1 .taken) (c .before .near .ensures))
+    near-found (s .pre .0) (s .args .v) (s .args .u) (s .pre .2) (told-near (s .args .scheme .now) (s .args .network .now) (s .args .v) (s .args .u) (c .before .near .result) (c .if1 .taken) (c .before .near .ensures))
 
 no-distances-requires : tie.Need-no-distances-requires
 no-distances-requires c κs = search needs

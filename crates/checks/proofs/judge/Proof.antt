@@ -1,4 +1,4 @@
-use Rattle.model.proofs.Deciding.{said-yes}
+use Rattle.checks.proofs.NearFound.{told-near}
 use borrow.Author.Needs.{needs}
 use Rattle.checks.proofs.judge.Statement.{statement}
 use Rattle.checks.proofs.judge.Tie as tie
@@ -9,7 +9,7 @@ near-requires c κs = search needs
 judge-near-requires : tie.Need-judge-near-requires
 judge-near-requires c κs =
     let s = c .before .before .before .before in
-    (s .pre .0, s .pre .1, s .pre .2, s .pre .3, said-yes (c .if1 .taken) (c .before .near .ensures))
+    (s .pre .0, s .pre .1, s .pre .2, s .pre .3, told-near (s .args .scheme .now) (s .args .network .now) (s .args .v) (s .args .u) (c .before .near .result) (c .if1 .taken) (c .before .near .ensures))
 
 returns : tie.Need-returns
 returns c = search needs

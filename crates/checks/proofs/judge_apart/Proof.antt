@@ -1,24 +1,23 @@
-use mathlib.Core.Path.{_≡_, refl}
-use mathlib.Core.Bool.{true}
-use mathlib.Core.Logic.{inl, inr}
-use Rattle.model.specs.Finding.{Finds}
-use Rattle.model.proofs.Deciding.{refused, passed, decided, is-true}
+use mathlib.Core.Path.{_≡_}
+use Rattle.model.specs.Finding.{World, Finds}
 use Rattle.network.specs.Ready.{worldOf}
-use Rattle.network.proofs.Reading.{ready-read}
+use Rattle.checks.proofs.JudgeAnswers.{answer-9, finds-so, answer-10, answer-11, answer-0}
 use borrow.Author.Needs.{needs}
 use Rattle.checks.proofs.judge_apart.Statement.{statement}
 use Rattle.checks.proofs.judge_apart.Tie as tie
 
-abbrev start : tie.Else1 → tie.Start
-start c = c .before .before .before .before .before .before .before .before .before .before .before .before .before
+abbrev start : tie.After-finds → tie.Start
+start c = c .before .before .before .before .before .before .before .before .before .before .before .before
+
+abbrev world : tie.Start → World
+world s = worldOf (s .args .scheme .now) (s .args .network .now)
 
 -- past 9
-finds : (c : tie.Else1) → Finds (worldOf (start c .args .scheme .now) (start c .args .network .now)) (start c .args .v) (start c .args .u)
-finds c = passed (c .before .finds .result) (c .if1 .left) (c .before .finds .ensures)
-
--- past 10
-is-defined : (c : tie.Else2) → start (c .before) .args .defined ≡ true
-is-defined c = passed (start (c .before) .args .defined) (c .if2 .left) (decided (is-true (start (c .before) .args .defined)))
+finds : (c : tie.Else1) → let s = start (c .before) in Finds (world s) (s .args .v) (s .args .u)
+finds c =
+    let s = start (c .before) in
+    let a = s .args in
+    finds-so (world s) (a .v) (a .u) (a .r) (a .defined) (c .before .finds .result) (c .if1 .left) (c .before .finds .ensures)
 
 no-distances-requires : tie.Need-no-distances-requires
 no-distances-requires c κs = search needs
@@ -45,12 +44,16 @@ finds-requires : tie.Need-finds-requires
 finds-requires c κs = search needs
 
 returns : tie.Need-returns
-returns c = inl (refused (c .before .finds .result) (c .if1 .taken) (c .before .finds .ensures), refl)
+returns c =
+    let s = start (c .before) in
+    let a = s .args in
+    answer-9 (world s) (a .v) (a .u) (a .r) (a .defined) (c .before .finds .result) (c .if1 .taken) (c .before .finds .ensures)
 
 returns-2 : tie.Need-returns-2
 returns-2 c =
-    let d = start (c .before) .args .defined in
-    inr (finds (c .before), inl (refused d (c .if2 .taken) (decided (is-true d)), refl))
+    let s = start (c .before .before) in
+    let a = s .args in
+    answer-10 (world s) (a .v) (a .u) (a .r) (a .defined) (finds (c .before)) (c .if2 .taken)
 
 slice-aggregate-allows : tie.Need-slice-aggregate-allows
 slice-aggregate-allows c = search needs
@@ -67,12 +70,16 @@ else2 c = c .before .before .before
 returns-3 : tie.Need-returns-3
 returns-3 c =
     let e = else2 (c .before) in
-    inr (finds (e .before), inr (is-defined e, inl (refused (c .before .allows .result) (c .if3 .taken) (c .before .allows .ensures), refl)))
+    let s = start (e .before .before) in
+    let a = s .args in
+    answer-11 (world s) (a .v) (a .u) (a .r) (a .defined) (finds (e .before)) (e .if2 .left) (c .before .allows .result) (c .if3 .taken) (c .before .allows .ensures)
 
 returns-4 : tie.Need-returns-4
 returns-4 c =
     let e = else2 (c .before) in
-    inr (finds (e .before), inr (is-defined e, inr (passed (c .before .allows .result) (c .if3 .left) (c .before .allows .ensures), refl)))
+    let s = start (e .before .before) in
+    let a = s .args in
+    answer-0 (world s) (a .v) (a .u) (a .r) (a .defined) (finds (e .before)) (e .if2 .left) (c .before .allows .result) (c .if3 .left) (c .before .allows .ensures)
 
 pub judge-apart-spec : {M : Type 1} → statement M
 judge-apart-spec =

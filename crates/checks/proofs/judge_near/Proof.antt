@@ -1,33 +1,38 @@
-use mathlib.Core.Path.{_≡_, refl}
-use mathlib.Core.Bool.{true}
-use mathlib.Core.Logic.{inl, inr}
+use mathlib.Core.Path.{_≡_}
 use Rattle.model.specs.Decides.{Decides}
-use Rattle.model.specs.Finding.{Finds, Allows}
-use Rattle.model.proofs.Deciding.{refused, passed, decided, is-true}
+use Rattle.model.specs.Finding.{World, Finds, Allows}
 use Rattle.network.specs.Ready.{worldOf}
 use Rattle.checks.proofs.NearFound.{near-found}
+use Rattle.checks.proofs.JudgeAnswers.{answer-10, answer-11, answer-0, allows-by}
 use borrow.Author.Needs.{needs}
 use Rattle.checks.proofs.judge_near.Statement.{statement}
 use Rattle.checks.proofs.judge_near.Tie as tie
 
-finds : (s : tie.Start) → Finds (worldOf (s .args .scheme .now) (s .args .network .now)) (s .args .v) (s .args .u)
+abbrev world : tie.Start → World
+world s = worldOf (s .args .scheme .now) (s .args .network .now)
+
+finds : (s : tie.Start) → Finds (world s) (s .args .v) (s .args .u)
 finds s = near-found (s .pre .0) (s .args .v) (s .args .u) (s .pre .2) (s .pre .4)
 
--- past 10
-is-defined : (c : tie.Else1) → c .before .before .before .args .defined ≡ true
-is-defined c = let d = c .before .before .before .args .defined in passed d (c .if1 .left) (decided (is-true d))
+abbrev else1 : tie.After-admits-friend → tie.Else1
+else1 c = c .before .before .before
+
+abbrev start : tie.After-admits-friend → tie.Start
+start c = else1 c .before .before .before
 
 -- the setting's policy was asked
 allowed : (c : tie.After-admits-friend)
-    → let a = c .before .before .before .before .before .before .args in
-    Decides (c .admits-friend .result) (Allows (worldOf (a .scheme .now) (a .network .now)) (a .u) (a .r) (a .v))
-allowed c = rw (← c .before .before .setting .ensures .0, ← c .before .wide .ensures .0) (c .admits-friend .ensures)
+    → Decides (c .admits-friend .result) (Allows (world (start c)) (start c .args .u) (start c .args .r) (start c .args .v))
+allowed c =
+    let a = start c .args in
+    allows-by (a .scheme .now) (a .network .now) (a .u) (a .r) (a .v) (c .before .wide .result) (c .before .before .setting .result) (c .admits-friend .result)
+    (c .before .before .setting .ensures .0) (c .before .wide .ensures .0) (c .admits-friend .ensures)
 
 returns : tie.Need-returns
 returns c =
     let s = c .before .before .before in
-    let d = s .args .defined in
-    inr (finds s, inl (refused d (c .if1 .taken) (decided (is-true d)), refl))
+    let a = s .args in
+    answer-10 (world s) (a .v) (a .u) (a .r) (a .defined) (finds s) (c .if1 .taken)
 
 setting-requires : tie.Need-setting-requires
 setting-requires c κs = search needs
@@ -40,13 +45,15 @@ admits-friend-requires c κs = search needs
 
 returns-2 : tie.Need-returns-2
 returns-2 c =
-    let e = c .before .before .before .before in
-    inr (finds (e .before .before .before), inr (is-defined e, inl (refused (c .before .admits-friend .result) (c .if2 .taken) (allowed (c .before)), refl)))
+    let s = start (c .before) in
+    let a = s .args in
+    answer-11 (world s) (a .v) (a .u) (a .r) (a .defined) (finds s) (else1 (c .before) .if1 .left) (c .before .admits-friend .result) (c .if2 .taken) (allowed (c .before))
 
 returns-3 : tie.Need-returns-3
 returns-3 c =
-    let e = c .before .before .before .before in
-    inr (finds (e .before .before .before), inr (is-defined e, inr (passed (c .before .admits-friend .result) (c .if2 .left) (allowed (c .before)), refl)))
+    let s = start (c .before) in
+    let a = s .args in
+    answer-0 (world s) (a .v) (a .u) (a .r) (a .defined) (finds s) (else1 (c .before) .if1 .left) (c .before .admits-friend .result) (c .if2 .left) (allowed (c .before))
 
 pub judge-near-spec : {M : Type 1} → statement M
 judge-near-spec =

@@ -1,9 +1,9 @@
-use mathlib.Core.Path.{_≡_, sym, _∙_}
-use mathlib.Core.Logic.{inl, inr, ⊎-elim}
-use Rattle.model.proofs.Deciding.{decided, iff, is-true}
+use Rattle.network.specs.Ready.{graphOf}
+use Rattle.checks.proofs.NearFound.{near-decides}
 use borrow.Author.Needs.{needs}
 use Rattle.checks.proofs.near.Statement.{statement}
 use Rattle.checks.proofs.near.Tie as tie
+use mathlib.Core.Logic.{inl}
 
 returns : tie.Need-returns
 returns c = inl (c .if1 .taken)
@@ -13,8 +13,8 @@ friends-requires c κs = search needs
 
 returns-2 : tie.Need-returns-2
 returns-2 c =
-    let e = c .friends .ensures in
-    decided {b = c .friends .result} (iff (λ h. inr (sym e ∙ h)) (λ h. ⊎-elim (λ d. absurd (c .before .if1 .left d)) (λ f. e ∙ f) h) (is-true (c .friends .result)))
+    let a = c .before .before .before .before .args in
+    near-decides (a .u) (a .v) (graphOf (a .scheme .now) (a .network .now) .friends (a .u) (a .v)) (c .friends .result) (c .before .if1 .left) (c .friends .ensures)
 
 pub near-spec : {M : Type 1} → statement M
 near-spec = tie.close (tie.spec returns friends-requires returns-2)

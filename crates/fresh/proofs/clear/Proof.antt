@@ -1,12 +1,12 @@
 use Prim.Native.Nat.{_≤_, _-_}
 use native.Mathlib.Omega.{arith}
-use Rattle.fresh.specs.Fill.{Cleared}
+use Rattle.fresh.specs.Fill.{ZerosBelow}
 use Rattle.fresh.proofs.Filling.{cleared-none, cleared-more}
 use Rattle.fresh.proofs.clear.Statement.{statement}
 use Rattle.fresh.proofs.clear.Tie as tie
 
 abbrev Inv-loop : tie.InvT-loop
-Inv-loop network₀ to i₀ network i = (i ≤ to) × Cleared network₀ i network
+Inv-loop network₀ to i₀ network i = (i ≤ to) × ZerosBelow network₀ i network
 
 abbrev μ-loop : tie.MeasureT-loop
 μ-loop network₀ to i₀ network i = to - i

@@ -3,7 +3,7 @@ use native.Mathlib.Omega.{arith}
 use lib.ListN.{length}
 use denote.Ref.{now}
 use Rattle.model.specs.Bytes.{two}
-use Rattle.log.proofs.Moving.{inside, moved, stays-refused, stays-ended}
+use Rattle.log.proofs.PlacesMoved.{inside, moved, stays-refused, stays-ended}
 use borrow.Author.Needs.{needs}
 use Rattle.log.proofs.read.Statement.{statement}
 use Rattle.log.proofs.read.Tie as tie

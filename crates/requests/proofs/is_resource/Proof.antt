@@ -2,7 +2,7 @@ use Prim.Native.Nat.{ℕ, _+_, _<_}
 use mathlib.Core.Path.{_≡_}
 use mathlib.Core.Bool.{Bool, true, false}
 use Rattle.model.specs.Decides.{Decides}
-use Rattle.tables.specs.declared.Counts.{Counts}
+use Rattle.tables.specs.declared.Summary.{Summary}
 use native.Mathlib.Omega.{arith}
 use Rattle.tables.specs.Rules.{ResourceOf}
 use Rattle.tables.specs.declared.Resource.{Resource}
@@ -26,7 +26,7 @@ says-inside A I r (Primitive a) h = omega arith
 says-inside A I r (Item o) h = omega arith
 says-inside A I r Outside h = λ l. omega arith
 
-named : (c : Counts) (r : ℕ) {x y : Resource} → x ≡ y → ResourceOf (c .primitives) (c .items) r x → Decides (inside y) (r < 2 + c .primitives + c .items)
+named : (c : Summary) (r : ℕ) {x y : Resource} → x ≡ y → ResourceOf (c .primitives) (c .items) r x → Decides (inside y) (r < 2 + c .primitives + c .items)
 named c r {x} {y} e h = says-inside (c .primitives) (c .items) r y (rw e at h)
 
 classify-requires : tie.Need-classify-requires

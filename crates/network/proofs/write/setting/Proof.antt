@@ -6,14 +6,14 @@ use native.Mathlib.Omega.{arith}
 use lib.ListN.{set}
 use Rattle.model.specs.SchemeBytes.{schemeOf}
 use Rattle.model.specs.Network.{pairs, settingPlace}
-use Rattle.tables.specs.declared.Counts.{Counts}
+use Rattle.tables.specs.declared.Summary.{Summary}
 use Rattle.network.specs.Ready.{Ready}
 use Rattle.network.proofs.Reading.{ready-range, setting-at, setting-inside}
 use borrow.Author.Needs.{needs}
 use Rattle.network.proofs.write.setting.Statement.{statement}
 use Rattle.network.proofs.write.setting.Tie as tie
 
-setting-place : {b net : List ℕ} {c : Counts} → Ready b c net → (m r p k : ℕ) → p ≡ pairs (c .members) → k ≡ 2 + c .primitives + c .items
+setting-place : {b net : List ℕ} {c : Summary} → Ready b c net → (m r p k : ℕ) → p ≡ pairs (c .members) → k ≡ 2 + c .primitives + c .items
     → p + (m * k + r) ≡ settingPlace (schemeOf b) m r
 setting-place h m r p k e f = rw (e, f) (setting-at h m r)
 

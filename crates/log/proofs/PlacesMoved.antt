@@ -9,12 +9,12 @@ use Rattle.kinds.specs.Kinds.{requestOf}
 use Rattle.kinds.specs.declared.Request.{Request}
 use Rattle.log.specs.declared.Answer.{Answer}
 use Rattle.log.specs.declared.Answer.the-variants.{Asks, Refused, Ended}
-use Rattle.log.specs.Read.{Says, Read}
+use Rattle.log.specs.Read.{SaidAt, Read}
 
-module _ (log : List ℕ) (place : ℕ) {answer : Answer} (s : Says log place answer) where
+module _ (log : List ℕ) (place : ℕ) {answer : Answer} (s : SaidAt log place answer) where
   -- a request's record lies within the log
   pub inside : {q : Request} → answer ≡ Asks q → place + 4 + two log place ≤ length log
-  inside {q} e = let h : Says log place (Asks q) = rw e at s in within log 0 place (requestOf q 0) (h 0 .1) .1
+  inside {q} e = let h : SaidAt log place (Asks q) = rw e at s in within log 0 place (requestOf q 0) (h 0 .1) .1
 
   pub moved : {q : Request} {body : ℕ} → answer ≡ Asks q → body ≡ two log place → Read log place answer (place + 4 + body)
   moved {q} {body} e m = record { says = s; moves = λ lent. rw (e, m) refl }
