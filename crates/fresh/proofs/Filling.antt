@@ -16,10 +16,10 @@ use Rattle.model.specs.Scheme.{Scheme, lowest}
 use Rattle.model.specs.SchemeBytes.{schemeOf, schemeNeeds, Accepted}
 use Rattle.model.proofs.Answering.{granted-met, behind, ahead}
 use Rattle.model.proofs.Places.{pair-before}
-use Rattle.tables.specs.Read.{CountsOf, ReadAs}
+use Rattle.tables.specs.Read.{CountsOf}
 use Rattle.scheme.specs.Checked.{Checked, numberOf}
 use Rattle.tables.specs.declared.Summary.{Summary}
-use Rattle.scheme.specs.declared.Reading.the-variants.{Accepted as Passed, Refused}
+use Rattle.scheme.specs.declared.Reading.the-variants.{Refused}
 use Rattle.scheme.specs.declared.Reading.{Reading}
 use Rattle.fresh.specs.Fill.{ZerosBelow, MemberFilled, AllFilled}
 

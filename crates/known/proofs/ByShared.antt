@@ -1,7 +1,7 @@
 -- Kind known, by what is computed for it.
 use Prim.Native.Nat.{ℕ, _≤_}
-use mathlib.Core.Path.{_≡_, sym, _∙_}
-use mathlib.Core.Bool.{false, false≢true}
+use mathlib.Core.Path.{sym, _∙_}
+use mathlib.Core.Bool.{false≢true}
 use mathlib.Core.Logic.{inl, inr, ⊎-elim}
 use lib.Dec.{leb}
 use Rattle.model.specs.Decides.{Decides}

@@ -6,7 +6,7 @@ use lib.ListN.{length, take, drop, set}
 use Rattle.model.specs.Answers.{Requirement, Answers}
 use Rattle.model.specs.Scheme.{Scheme}
 use Rattle.model.specs.SchemeBytes.{schemeOf, schemeNeeds}
-use Rattle.model.specs.Network.{Maps, fresh, pairPlace, settingPlace, size, Laid, held, Valid}
+use Rattle.model.specs.Network.{fresh, pairPlace, settingPlace, size, Laid, held, Valid}
 use Rattle.model.specs.Requests.{Request, event, set-policy, find, list, view, next, needs, writes, Turn, granted}
 
 -- the bytes are a fresh network under scheme b

@@ -21,7 +21,7 @@ use Rattle.distance.specs.Distances.{Marks}
 use Rattle.known.specs.Acquainted.{Acquainted}
 use Rattle.relation.specs.declared.Relation.{Relation}
 use Rattle.relation.proofs.Relating.{related-less}
-use Rattle.policies.specs.Admission.{Alone, Reads, Admitted, NextRule}
+use Rattle.policies.specs.Admission.{Reads, Admitted, NextRule}
 
 -- a policy's bit
 pub bit-says : {b net : List ℕ} {u v from count set : ℕ} → Admitted b net u v from count set → (p : ℕ) → from ≤ p → p < count

@@ -1,6 +1,6 @@
 -- List, answer by answer.
 use Prim.Native.Nat.{ℕ, zero, suc, _<_, _≤_}
-use mathlib.Core.Path.{_≡_, refl, sym, _∙_, ap}
+use mathlib.Core.Path.{_≡_, refl, _∙_, ap}
 use mathlib.Core.Bool.{true}
 use mathlib.Core.List.{List, [], _∷_}
 use mathlib.Core.Logic.{inl, inr}

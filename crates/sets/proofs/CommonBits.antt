@@ -1,28 +1,22 @@
 -- The common bits of two rows.
-use Prim.Native.Nat.{ℕ, zero, suc, _+_, _-_, _*_, _/_, _%_, _^_, _≤_, _<_, min}
+use Prim.Native.Nat.{ℕ, zero, suc, _+_, _*_, _%_, _^_, _≤_, _<_}
 use mathlib.Core.Path.{_≡_, refl, sym, ap, ap₂, _∙_}
-use mathlib.Core.Bool.{Bool, true, false, _&&_}
-use mathlib.Core.List.{List, [], _∷_}
-use mathlib.Core.Logic.{_⊎_, ⊎-elim}
-use native.Mathlib.Nat.{zero-add, mod-lt, mod-one, mod-eq-of-lt, add-comm, not-suc-le-zero, le-of-suc-le-suc, div-add-mod'}
-use native.Mathlib.Numerals.{one-add, add-one}
+use mathlib.Core.Bool.{Bool, _&&_}
+use mathlib.Core.List.{List}
+use native.Mathlib.Nat.{zero-add, mod-lt, mod-one, mod-eq-of-lt, add-comm, not-suc-le-zero, le-of-suc-le-suc}
+use native.Mathlib.Numerals.{one-add}
 use native.Mathlib.Omega.{arith}
-use native.Mathlib.Decide.{decLt}
-use borrow.Author.Count.{below-more}
 use lib.Arith.{digits-div, digits-mod}
-use lib.Bits.{bitAnd, bitOr, and-lt}
+use lib.Bits.{bitAnd, and-lt}
 use lib.Count.{ones, ones-cat}
 use lib.Dec.{eqb}
 use lib.ListN.{getD}
 use lib.Pow.{pow-pos, mod-pow-add}
-use Rattle.model.specs.Bytes.{digit, bit, NoBitFrom}
+use Rattle.model.specs.Bytes.{digit, bit}
 use Rattle.model.specs.Graph.{Graph, one, count, shared}
-use Rattle.model.proofs.Bits.{digit-lt, digit-of-zero, bit-yes, bit-no, bit-and, shr-and-one}
-use Rattle.model.proofs.Places.{pairs-suc}
-use Rattle.model.proofs.Sets.{Added, added, left-out, none-in-zero}
+use Rattle.model.proofs.Bits.{digit-lt, bit-and}
 use Rattle.model.proofs.Counting.{count-ext, count-split, count-above}
-use Rattle.model.specs.Network.{pairs, pairPlace, held, stateOf}
-use Rattle.model.specs.SchemeBytes.{n as members, schemeOf}
+use Rattle.model.specs.SchemeBytes.{n as members}
 use Rattle.sets.specs.Rows.{rowBit, FriendRow}
 use Rattle.sets.specs.Sets.{CommonBits}
 

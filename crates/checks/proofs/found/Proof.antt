@@ -1,4 +1,3 @@
-use mathlib.Core.Path.{_≡_}
 use Rattle.checks.proofs.NearFound.{near-found, told-near}
 use borrow.Author.Needs.{needs}
 use Rattle.checks.proofs.found.Statement.{statement}

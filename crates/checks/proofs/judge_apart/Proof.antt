@@ -1,4 +1,3 @@
-use mathlib.Core.Path.{_≡_}
 use Rattle.model.specs.Finding.{World, Finds}
 use Rattle.network.specs.Ready.{worldOf}
 use Rattle.checks.proofs.JudgeAnswers.{answer-9, finds-so, answer-10, answer-11, answer-0}

@@ -1,4 +1,3 @@
-use mathlib.Core.Path.{_≡_}
 use Rattle.model.specs.Decides.{Decides}
 use Rattle.model.specs.Finding.{World, Finds, Allows}
 use Rattle.network.specs.Ready.{worldOf}

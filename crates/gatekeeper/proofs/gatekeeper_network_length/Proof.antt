@@ -1,4 +1,3 @@
-use mathlib.Core.Path.{refl}
 use Rattle.model.specs.SchemeBytes.{Accepted}
 use Rattle.tables.specs.Read.{ReadAs}
 use Rattle.scheme.proofs.Accepting.{checked-read}

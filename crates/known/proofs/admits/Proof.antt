@@ -1,4 +1,3 @@
-use mathlib.Core.Path.{_≡_}
 use Rattle.known.proofs.ByShared.{close-admits, sharing-admits}
 use borrow.Author.Needs.{needs}
 use Rattle.known.proofs.admits.Statement.{statement}

@@ -1,4 +1,3 @@
-use mathlib.Core.Path.{_≡_}
 use native.Mathlib.Omega.{arith}
 use Rattle.model.proofs.Deciding.{decided}
 use Rattle.network.proofs.Reading.{ready-read}

@@ -1,11 +1,8 @@
-use mathlib.Core.Path.{_≡_}
 use native.Mathlib.Omega.{arith}
-use denote.Ref.{now}
 use Rattle.model.proofs.Deciding.{says, said-yes, is-so}
 use Rattle.network.proofs.Reading.{ready-read}
 use Rattle.prepared.proofs.Reaching.{some-more}
 use Rattle.relation.proofs.Relating.{related-less}
-use borrow.Author.Needs.{needs}
 use Rattle.policies.proofs.admitted.Statement.{statement}
 use Rattle.policies.proofs.admitted.Tie as tie
 

@@ -1,7 +1,5 @@
 use native.Mathlib.Omega.{arith}
-use mathlib.Core.Path.{_≡_, ap}
-use Rattle.model.specs.SchemeBytes.{schemeOf}
-use Rattle.tables.specs.Rules.{kindOf}
+use mathlib.Core.Path.{_≡_}
 use borrow.Author.Needs.{needs}
 use Rattle.policies.proofs.first_judged.Statement.{statement}
 use Rattle.policies.proofs.first_judged.Tie as tie

@@ -1,5 +1,5 @@
 use Prim.Native.Nat.{_-_, _≤_}
-use mathlib.Core.Path.{_≡_, sym, _∙_}
+use mathlib.Core.Path.{sym, _∙_}
 use borrow.Author.Needs.{needs}
 use native.Mathlib.Omega.{arith}
 use Rattle.prepared.specs.Reading.{SomeOfKind}

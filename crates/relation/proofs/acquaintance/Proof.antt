@@ -1,6 +1,5 @@
 use mathlib.Core.Path.{sym, _∙_}
 use mathlib.Core.Bool.{false≢true}
-use borrow.Author.Needs.{needs}
 use Rattle.relation.proofs.acquaintance.Statement.{statement}
 use Rattle.relation.proofs.acquaintance.Tie as tie
 

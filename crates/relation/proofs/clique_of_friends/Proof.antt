@@ -1,5 +1,4 @@
 use Prim.Native.Nat.{_≤_}
-use mathlib.Core.Path.{_≡_}
 use native.Mathlib.Omega.{arith}
 use denote.Ref.{now}
 use Rattle.network.specs.Ready.{graphOf}

@@ -1,11 +1,10 @@
-use mathlib.Core.Path.{_≡_, sym, _∙_}
+use mathlib.Core.Path.{sym, _∙_}
 use mathlib.Core.Bool.{false≢true}
 use mathlib.Core.Logic.{inl, inr, ⊎-elim}
 use Rattle.model.specs.Graph.{Graph, Friends}
 use denote.Ref.{now}
 use Rattle.network.specs.Ready.{graphOf}
 use Rattle.relation.proofs.Relating.{near-own, near-friend}
-use borrow.Author.Needs.{needs}
 use Rattle.relation.proofs.of_friends.Statement.{statement}
 use Rattle.relation.proofs.of_friends.Tie as tie
 

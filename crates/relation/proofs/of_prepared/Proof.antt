@@ -1,6 +1,4 @@
-use mathlib.Core.Path.{_≡_}
 use native.Mathlib.Omega.{arith}
-use denote.Ref.{now}
 use Rattle.network.proofs.Reading.{ready-range}
 use Rattle.relation.proofs.Relating.{sized-by}
 use borrow.Author.Needs.{needs}

@@ -1,5 +1,4 @@
 use native.Mathlib.Omega.{arith}
-use Rattle.network.proofs.Reading.{ready-read}
 use Rattle.scheme.specs.declared.Reading.the-variants.{Accepted}
 use Rattle.checks.specs.Opened.{Opened}
 use Rattle.checks.proofs.CallAnswers.{open-accepted, open-refused}

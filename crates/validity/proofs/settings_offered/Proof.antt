@@ -3,8 +3,6 @@ use native.Mathlib.Omega.{arith}
 use borrow.Author.Count.{below-more}
 use borrow.Author.Needs.{needs}
 use borrow.Author.Tests.{not-true, not-false}
-use Rattle.model.specs.Network.{settingPlace}
-use Rattle.model.specs.SchemeBytes.{schemeOf}
 use Rattle.model.proofs.Deciding.{Says}
 use Rattle.validity.proofs.Validity.{ColumnOffered, column-says}
 use Rattle.validity.proofs.Validity.{setting-at, setting-within}

@@ -1,4 +1,3 @@
-use mathlib.Core.Path.{_≡_, sym, _∙_}
 use native.Mathlib.Omega.{arith}
 use Rattle.model.proofs.Deciding.{decided, says, iff}
 use Rattle.validity.proofs.Validity.{valid-states, valid-offered, offered-below, valid-if}
