@@ -8,7 +8,8 @@ use Rattle.model.specs.Calls.{Called, Left}
 use Rattle.kinds.specs.Kinds.{requestOf}
 use Rattle.kinds.specs.declared.Request.{Request}
 use Rattle.kinds.specs.declared.Request.the-variants.{List as ListOf}
-use Rattle.requests.specs.Answered.{answered, numberOf, countOf, ListCalled}
+use Rattle.model.specs.Requests.{answered}
+use Rattle.requests.specs.Answered.{numberOf, countOf, ListCalled}
 use Rattle.requests.specs.declared.Listed.{Listed}
 
 module _ (b net out : List ℕ) where
@@ -20,4 +21,4 @@ module _ (b net out : List ℕ) where
   pub friends : {asked : Request} {v u k count : ℕ} (told : Listed) (left : List ℕ) → asked ≡ ListOf v u → k ≡ numberOf told → count ≡ countOf told
       → ListCalled b net v u out told left
       → Left b net (requestOf asked (length out)) out k count left net
-  friends told left e n m c = rw (e, n, m) c
+  friends told left e n m c = rw (e, n, m) (c .left)

@@ -35,11 +35,11 @@ pub fn call(scheme: &[u8], network: &mut [u8], request: Request, output: &mut [u
 {
     match request {
         Request::Event(v, u, a) => Reply {
-            answer: requests::event(scheme, network, v, u, a),
+            answer: changes::event(scheme, network, v, u, a),
             count: 0,
         },
         Request::Set(u, r, p) => Reply {
-            answer: requests::set(scheme, network, u, r, p),
+            answer: changes::set(scheme, network, u, r, p),
             count: 0,
         },
         Request::Find(v, u) => Reply {

@@ -1,5 +1,8 @@
 -- What reading a number or a part of a case promises.
 use Prim.Native.Nat.{ℕ, _≤_, _<_}
+use mathlib.Core.Path.{_≡_}
+use mathlib.Core.List.{List}
+use lib.ListN.{drop}
 use Rattle.cases.specs.declared.Number.{Number}
 use Rattle.cases.specs.declared.Number.the-variants.{Is, End as NumberEnd}
 use Rattle.cases.specs.declared.Part.{Part}
@@ -14,3 +17,8 @@ Small NumberEnd = Unit {0}
 abbrev pub Within : Part → ℕ → Type 0
 Within (Bytes n) size = n ≤ size
 Within End size = Unit {0}
+
+-- no byte behind the part that was asked for is written, and none at the end of the input
+abbrev pub Kept : Part → List ℕ → List ℕ → Type 0
+Kept (Bytes n) before after = (size : ℕ) × (n ≤ size) × (drop size after ≡ drop size before)
+Kept End before after = after ≡ before

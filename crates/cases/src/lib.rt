@@ -2,7 +2,7 @@
 ghost use mathlib.Core.Path.{_≡_};
 ghost use Prim.Native.Nat.{_<_};
 ghost use lib.ListN.{length};
-ghost use Rattle.cases.specs.Parts.{Small, Within};
+ghost use Rattle.cases.specs.Parts.{Small, Within, Kept};
 ghost use Rattle.cases.specs.Sums.{adler};
 use libc::STDIN_FILENO;
 
@@ -31,7 +31,8 @@ pub fn read_number() -> Number
 
 // Reads a 2-byte length and that many bytes.
 pub fn read_part(buffer: &mut [u8]) -> Part
-    ensures { λ r. ⌜ Within r (length (now (buffer .exit))) ⌝ }
+    ensures within { λ r. ⌜ Within r (length (now (buffer .exit))) ⌝ }
+    ensures kept { λ r. ⌜ Kept r (now (buffer .entry)) (now (buffer .exit)) ⌝ }
 {
     let Number::Is(size) = read_number() else {
         return Part::End;

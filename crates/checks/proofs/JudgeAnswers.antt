@@ -2,7 +2,7 @@
 use Prim.Native.Nat.{ℕ}
 use mathlib.Core.Path.{_≡_, refl, _∙_}
 use mathlib.Core.Bool.{Bool, true, false, not}
-use mathlib.Core.List.{List}
+use mathlib.Core.List.{List, [], _∷_}
 use mathlib.Core.Logic.{inl, inr}
 use Rattle.model.specs.Answers.{Answers}
 use Rattle.model.specs.Decides.{Decides}
@@ -40,3 +40,9 @@ pub allows-by : (b net : List ℕ) (u r v p q : ℕ) (x : Bool) → q ≡ held (
     → Decides x (Admits (graphOf b net) (schemeOf b .policy p) u v)
     → Decides x (Allows (worldOf b net) u r v)
 allows-by b net u r v p q x e f d = let g : p ≡ held (schemeOf b) net .setting u r = f ∙ e in rw g at d
+
+-- 9, 10 and 11 where 10 does not apply
+pub past-10 : (w : World) (v u r k : ℕ) → Answers (judgeNeeds w v u r true) k → Answers ((9, Finds w v u) ∷ (11, Allows w u r v) ∷ []) k
+past-10 w v u r k (inl h) = inl h
+past-10 w v u r k (inr (f, inl (n, e))) = absurd (n refl)
+past-10 w v u r k (inr (f, inr (t, a))) = inr (f, a)

@@ -1,4 +1,2 @@
-pub mod OpenAnswers
-pub mod CallAnswers
 pub mod NearFound
 pub mod JudgeAnswers

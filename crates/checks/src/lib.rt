@@ -1,5 +1,4 @@
-// What several calls check: the scheme, the network and the members (1 to 6), finding and admission (9, 10 and 11).
-use scheme::Reading;
+// What several calls check: finding and admission (9, 10 and 11).
 use tables::Summary;
 ghost use mathlib.Core.Path.{_≡_};
 ghost use mathlib.Core.Logic.{_⊎_};
@@ -11,27 +10,6 @@ ghost use Rattle.model.specs.Finding.{Finds};
 ghost use Rattle.model.specs.Graph.{Friends};
 ghost use Rattle.network.specs.Ready.{Ready, worldOf, graphOf};
 ghost use Rattle.checks.specs.Judged.{judgeNeeds};
-ghost use Rattle.checks.specs.Opened.{Opened};
-
-// The scheme check; 5 if the network does not pass; 6 if v or u is no member.
-pub fn open(scheme: &[u8], network: &[u8], v: usize, u: usize) -> Reading
-    ensures { λ r. ⌜ Opened (now (scheme .entry)) (now (network .entry)) v u r ⌝ }
-{
-    let reading = scheme::check(scheme);
-    let Reading::Accepted(c) = reading else {
-        return reading;
-    };
-    if !validity::valid(scheme, c, network) {
-        return Reading::Refused(5);
-    }
-    if v >= c.members {
-        return Reading::Refused(6);
-    }
-    if u >= c.members {
-        return Reading::Refused(6);
-    }
-    Reading::Accepted(c)
-}
 
 fn no_distances() -> [u16; 256]
     ensures { λ r. ⌜ length r ≡ 256 ⌝ }

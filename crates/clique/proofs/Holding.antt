@@ -11,10 +11,10 @@ use lib.ListN.{length}
 use Rattle.model.specs.Graph.{Graph, Friends, Mutual, Among, Clique}
 use Rattle.model.proofs.Cliques.{Other, mutual-friends, friend-of-all, mutual-member, Without, without}
 use Rattle.sets.specs.Rows.{rowBit, FriendRow}
-use Rattle.sets.specs.Rows.{rowOf, AllRows}
+use Rattle.sets.specs.Rows.{rowOf}
 use Rattle.clique.specs.Cliques.{Undirected, LargestClique}
 use Rattle.sets.specs.Sets.{Meet, Has, NotEmpty}
-use Rattle.clique.specs.Mutual.{Holds, RowsOf, Inside, TellsEach}
+use Rattle.clique.specs.Mutual.{Holds, RowsOf, Inside, TellsEach, CliqueSize}
 
 never : {b : Bool} → b ≡ true → b ≡ false → ⊥
 never t f = let z : _≡_ {A = ℕ} 0 1 = cc in omega arith
@@ -217,12 +217,13 @@ module _ {g : Graph} {u v : ℕ} {rowU rowV common : List ℕ} (few : g .members
       go (yes e) x = omega arith
       go (no e) x = absurd (n (omega arith) (holds-less k (suc j) (omega arith) x))
 
--- what the rows tell of the largest clique with u and v
-abbrev pub Largest : List ℕ → ℕ → ℕ → ℕ → Type 0
-Largest rows u v r = (g : Graph) → AllRows g rows → Undirected g → g .members ≤ 256 → u < g .members → v < g .members → (u ≡ v → ⊥) → LargestClique g u v r
-
-pub no-friends : (rows : List ℕ) (u v : ℕ) → rowBit (rowOf rows u) v ≡ false → Largest rows u v 1
-no-friends rows u v n g r two few a b d = largest-none two d (sym (r u a .bits v (omega arith)) ∙ n)
+pub no-friends : (rows : List ℕ) (u v : ℕ) → rowBit (rowOf rows u) v ≡ false → CliqueSize rows u v 1
+no-friends rows u v n = record {
+  some = omega arith;
+  most = omega arith;
+  largest = λ g r a b d. largest-none (r .undirected) d (sym (r .each u a .bits v (omega (arith, r .few))) ∙ n);
+  alone = λ g r a e. refl;
+}
 
 pub none-asked : {rows set : List ℕ} → TellsEach rows set 0 0 true
 none-asked = record {
@@ -237,14 +238,20 @@ tells-no {t = t} a e = rw (not-true t e) at a
 
 -- friends whose common friends hold j mutual members and, of up to three, no more
 pub friends-with : (rows common : List ℕ) (u v j : ℕ) → Has (rowOf rows u) v → Meet (rowOf rows u) (rowOf rows v) common
+    → j ≤ 3
     → TellsEach rows common 0 j true
     → (j < 3 → TellsEach rows common 0 (suc j) false)
-    → Largest rows u v (2 + j)
-friends-with rows common u v j f c x y g r two few a b d =
-    let p = r u a in
-    let all : RowsOf g rows = record { each = r; few = few; undirected = two } in
-    let i : Inside g common = λ m h. row-inside p m (in-both c m h .0) in
-    largest-holds few two a b d p (r v b) c j (sym (p .bits v (omega arith)) ∙ f) (x .tells g all i .sound refl) (λ l h. never (y l .tells g all i .complete h) refl)
+    → CliqueSize rows u v (2 + j)
+friends-with rows common u v j f c few x y = record {
+  some = omega arith;
+  most = omega arith;
+  largest = λ g r a b d.
+      let p = r .each u a in
+      let i : Inside g common = λ m h. row-inside p m (in-both c m h .0) in
+      largest-holds (r .few) (r .undirected) a b d p (r .each v b) c j (sym (p .bits v (omega (arith, r .few))) ∙ f) (x .tells g r i .sound refl)
+      (λ l h. never (y l .tells g r i .complete h) refl);
+  alone = λ g r a e. absurd (never (sym (r .each u a .bits v (omega (arith, r .few))) ∙ f) (rw (← e) (r .undirected .none-own u)));
+}
 
 -- a common friend x, a common friend y of the three, and one more of the four: a clique of five
 pub five : {g : Graph} {u v x y : ℕ} {rowU rowV rowX rowY common common' common'' : List ℕ} → g .members ≤ 256 → Undirected g

@@ -7,7 +7,7 @@ use lib.ListN.{length}
 use Rattle.model.specs.Graph.{Graph, Mutual, Among}
 use Rattle.sets.specs.Rows.{AllRows}
 use Rattle.sets.specs.Sets.{Has}
-use Rattle.clique.specs.Cliques.{Undirected}
+use Rattle.clique.specs.Cliques.{Undirected, LargestClique}
 
 -- the set has j different members, none below from, that are all friends of each other
 pub record Holds (g : Graph) (set : List ℕ) (from j : ℕ) : Type 0 where
@@ -26,6 +26,13 @@ pub record RowsOf (g : Graph) (rows : List ℕ) : Type 0 where
   pub each : AllRows g rows
   pub few : g .members ≤ 256
   pub undirected : Undirected g
+
+-- the number of members, at most 5, of the largest clique with u and v, where they are two, in every graph with these rows; 1 of one
+pub record CliqueSize (rows : List ℕ) (u v size : ℕ) : Type 0 where
+  pub some : 1 ≤ size
+  pub most : size ≤ 5
+  pub largest : (g : Graph) → RowsOf g rows → u < g .members → v < g .members → (u ≡ v → ⊥) → LargestClique g u v size
+  pub alone : (g : Graph) → RowsOf g rows → u < g .members → u ≡ v → size ≡ 1
 
 -- the set has members only
 abbrev pub Inside : Graph → List ℕ → Type 0

@@ -1,11 +1,8 @@
 // Cliques (document 01, "Policies", kind 5).
 ghost use mathlib.Core.Path.{_≡_};
-ghost use Prim.Native.Nat.{_<_, _≤_};
+ghost use Prim.Native.Nat.{_<_};
 ghost use lib.ListN.{length};
-ghost use Rattle.model.specs.Graph.{Graph};
-ghost use Rattle.sets.specs.Rows.{AllRows};
-ghost use Rattle.clique.specs.Cliques.{Undirected, LargestClique};
-ghost use Rattle.clique.specs.Mutual.{TellsEach};
+ghost use Rattle.clique.specs.Mutual.{TellsEach, CliqueSize};
 
 // Whether a set has two friends; the first is not looked for below from.
 fn has_pair(rows: &[u64], set: [u64; 4], from: usize) -> bool
@@ -41,10 +38,10 @@ fn has_triangle(rows: &[u64], set: [u64; 4]) -> bool
     false
 }
 
-// The number of members, at most 5, of the largest clique with u and v among them.
+// The number of members, at most 5, of the largest clique with u and v among them; 1 where they are one.
 pub fn largest(rows: &[u64], u: usize, v: usize) -> usize
     requires { ⌜ (length (now rows) ≡ 1024) × (u < 256) × (v < 256) ⌝ }
-    ensures { λ r. ⌜ ((g : Graph) → AllRows g (now (rows .entry)) → Undirected g → g .members ≤ 256 → u < g .members → v < g .members → (u ≡ v → ⊥) → LargestClique g u v r) ⌝ }
+    ensures { λ r. ⌜ CliqueSize (now (rows .entry)) u v r ⌝ }
 {
     let of_u = sets::row(rows, u);
     if !sets::has(of_u, v) {

@@ -1,12 +1,13 @@
 -- Layers of marks: whom a walk of d friendships, and none of fewer, joins with v has the mark d + 1.
 use Prim.Native.Nat.{ℕ, _+_, _-_, _<_, _≤_}
-use mathlib.Core.Path.{_≡_, refl}
+use mathlib.Core.Path.{_≡_, refl, _∙_}
 use mathlib.Core.Bool.{Bool, false}
 use mathlib.Core.List.{List, [], _∷_}
 use mathlib.Core.Logic.{_⊎_, ⊎-elim}
+use native.Mathlib.Decide.{decLt}
 use native.Mathlib.Nat.{eq-or-lt-of-le}
 use native.Mathlib.Omega.{arith}
-use lib.ListN.{length, getD, set}
+use lib.ListN.{length, getD, set, List·getD-eq-default}
 use Rattle.model.specs.Graph.{Graph, Friends, Onward, Within}
 use Rattle.model.proofs.Deciding.{Inside}
 use Rattle.distance.specs.Distances.{Distances}
@@ -18,6 +19,7 @@ pub record Layers (g : Graph) (v d : ℕ) (s : List ℕ) : Type 0 where
   pub top : (k : ℕ) → k < g .members → getD s k 0 ≤ d
   pub sound : (k e : ℕ) → k < g .members → getD s k 0 ≡ e + 1 → Within g e k v
   pub begun : getD s v 0 ≡ 1
+  pub outside : (k : ℕ) → g .members ≤ k → getD s k 0 ≡ 0
   pub closed : (j k : ℕ) → j < g .members → k < g .members → 0 < getD s j 0 → getD s j 0 < d → Friends g k j
       → (0 < getD s k 0) × (getD s k 0 ≤ getD s j 0 + 1)
 
@@ -27,15 +29,20 @@ module _ {g : Graph} {v : ℕ} where
     top = λ k l. ⊎-elim (λ q. omega arith) (λ q. omega (arith, z .zeros k (omega arith))) (at k);
     sound = λ k e l h. ⊎-elim (λ q. ([], omega arith, q .0)) (λ q. absurd (omega (arith, z .zeros k (omega arith)))) (at k);
     begun = ⊎-elim (λ q. q .1) (λ q. absurd (q .0 refl)) (at v);
+    outside = λ k l. ⊎-elim (λ q. absurd (omega arith)) (λ q. q .1 ∙ zero k (decLt k 256)) (at k);
     closed = λ j k a b h o f. absurd (omega arith);
   }
     where
       at : (k : ℕ) → ((k ≡ v) × (getD (set s v 1) k 0 ≡ 1)) ⊎ ((k ≡ v → ⊥) × (getD (set s v 1) k 0 ≡ getD s k 0))
       at k = after s v 1 k (omega (arith, z .size))
 
+      zero : (k : ℕ) → Dec (k < 256) → getD s k 0 ≡ 0
+      zero k (yes l) = z .zeros k l
+      zero k (no l) = List·getD-eq-default s 0 (omega (arith, z .size))
+
   -- where all with a mark up to the limit are below the layer, the marks are the distances
   module _ {d : ℕ} {s : List ℕ} (limit : ℕ) (x : Layers g v d s) (inside : Inside g)
-      (ended : (j : ℕ) → j < g .members → getD s j 0 ≤ limit → getD s j 0 < d) where
+      (few : d ≤ limit + 1) (ended : (j : ℕ) → j < g .members → getD s j 0 ≤ limit → getD s j 0 < d) where
     walked : (l : List ℕ) (m : ℕ) → m < g .members → length l ≤ limit → Onward (Friends g) m l v
         → (0 < getD s m 0) × (getD s m 0 ≤ length l + 1)
     walked [] m lm b o = rw o (omega (arith, x .begun))
@@ -45,12 +52,16 @@ module _ {g : Graph} {v : ℕ} where
         omega (arith, x .closed y m ly lm p (ended y ly (omega arith)) f)
 
     pub layers-distances : Distances g v limit s
-    layers-distances m k lm lk = (
-      λ (l, b, o). omega (arith, walked l m lm (omega arith) o),
-      λ (p, q).
-          let (l, b, o) = x .sound m (getD s m 0 - 1) lm (omega arith) in
-          (l, omega arith, o),
-    )
+    layers-distances = record {
+      least = λ m k lm lk. (
+        λ (l, b, o). omega (arith, walked l m lm (omega arith) o),
+        λ (p, q).
+            let (l, b, o) = x .sound m (getD s m 0 - 1) lm (omega arith) in
+            (l, omega arith, o),
+      );
+      near = λ m lm. omega (arith, x .top m lm);
+      outside = x .outside;
+    }
 
   module _ {d n : ℕ} {s t : List ℕ} {some : Bool} (x : Layers g v d s) (y : Layered g d s n t some) (all : g .members ≤ n) (pos : 0 < d) (lv : v < g .members) where
     kept : (k : ℕ) → k < g .members → 0 < getD s k 0 → getD t k 0 ≡ getD s k 0
@@ -74,6 +85,7 @@ module _ {g : Graph} {v : ℕ} where
           (j ∷ walk, omega arith, (w .2 .3, on)))
           (y .spread .each k l);
       begun = omega (arith, x .begun, kept v lv (omega (arith, x .begun)));
+      outside = λ k a. y .spread .outside k a ∙ x .outside k a;
       closed = λ j k a b h o f.
           let q : getD t j 0 ≡ getD s j 0 = old j a o in
           ⊎-elim
@@ -85,9 +97,9 @@ module _ {g : Graph} {v : ℕ} where
     }
 
     -- where nobody had the mark d
-    pub layers-ended : (limit : ℕ) → Inside g → some ≡ false → Distances g v limit t
-    layers-ended limit inside none =
-        layers-distances limit layers-step inside
+    pub layers-ended : (limit : ℕ) → Inside g → d ≤ limit → some ≡ false → Distances g v limit t
+    layers-ended limit inside few none =
+        layers-distances limit layers-step inside (omega arith)
         (λ j l o.
         ⊎-elim (λ w. omega (arith, x .top j l))
         (λ w. absurd (y .nobody none (w .2 .0) (omega (arith, w .2 .1)) (w .2 .2 .1))) (y .spread .each j l))

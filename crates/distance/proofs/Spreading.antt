@@ -33,7 +33,7 @@ Of m i j k = (j ≡ m) × (k < i)
 pub spread-none : {g : Graph} {Tried : ℕ → ℕ → Type 0} {mark : ℕ} {old : List ℕ} → length old ≡ 256
     → ((j k : ℕ) → Tried j k → 0 < getD old k 0)
     → Spread g Tried mark old old
-spread-none l h = record { size = l; marked = λ j k a b t f. h j k t; each = λ k a. inl refl }
+spread-none l h = record { size = l; marked = λ j k a b t f. h j k t; each = λ k a. inl refl; outside = λ k a. refl }
 
 -- the same marks, where other pairs are the tried ones
 pub spread-same : {g : Graph} {T U : ℕ → ℕ → Type 0} {mark : ℕ} {old new : List ℕ} → Spread g T mark old new → ((j k : ℕ) → T j k → U j k)
@@ -43,6 +43,7 @@ spread-same x f h = record {
   size = x .size;
   marked = λ j k a b u e. ⊎-elim (λ t. x .marked j k a b t e) (λ p. p) (h j k a b u e);
   each = λ k a. ⊎-elim (λ w. inl w) (λ w. inr (w .0, w .1, (w .2 .0, w .2 .1, f (w .2 .0) k (w .2 .2), w .2 .3))) (x .each k a);
+  outside = x .outside;
 }
 
 module _ {g : Graph} {mark : ℕ} {old new : List ℕ} {m i : ℕ} (x : Spread g (Of m i) mark old new) where
@@ -73,6 +74,7 @@ module _ {g : Graph} {mark : ℕ} {old new : List ℕ} {m i : ℕ} (x : Spread g
         ⊎-elim (λ w. inl (omega arith))
         (λ w. inr (w .0, omega arith, (w .2 .0, w .2 .1, (w .2 .2 .0, omega (arith, w .2 .2 .1)), w .2 .3))) (x .each k a))
         (at k);
+    outside = λ k a. ⊎-elim (λ q. absurd (omega (arith, q .0))) (λ q. q .1 ∙ x .outside k a) (at k);
   }
     where
       at : (k : ℕ) → ((k ≡ i) × (getD (set new i mark) k 0 ≡ mark)) ⊎ ((k ≡ i → ⊥) × (getD (set new i mark) k 0 ≡ getD new k 0))
@@ -122,6 +124,7 @@ module _ {g : Graph} {d : ℕ} {old new : List ℕ} {m : ℕ} {some : Bool} (x :
             (m, lm, (omega arith, same .0 h), rw (w .2 .2) at (w .2 .3)),
           ))
           (y .each k a);
+      outside = λ k a. y .outside k a ∙ x .spread .outside k a;
     };
     nobody = λ e. absurd (true≢false e);
   }

@@ -24,6 +24,7 @@ pub record Spread (g : Graph) (Tried : ℕ → ℕ → Type 0) (mark : ℕ) (old
   pub each : (k : ℕ) → k < g .members
       → (getD new k 0 ≡ getD old k 0)
       ⊎ ((getD old k 0 ≡ 0) × (getD new k 0 ≡ mark) × ((j : ℕ) × (j < g .members) × Tried j k × Friends g k j))
+  pub outside : (k : ℕ) → g .members ≤ k → getD new k 0 ≡ getD old k 0
 
 -- the friends of those below i with the mark were tried; where some is false, there was none
 pub record Layered (g : Graph) (mark : ℕ) (old : List ℕ) (i : ℕ) (new : List ℕ) (some : Bool) : Type 0 where

@@ -3,9 +3,8 @@ use tables::Summary;
 ghost use mathlib.Core.Path.{_≡_};
 ghost use Prim.Native.Nat.{_<_, _≤_};
 ghost use lib.ListN.{length};
-ghost use Rattle.model.specs.Decides.{Decides};
 ghost use Rattle.network.specs.Ready.{Ready, graphOf};
-ghost use Rattle.distance.specs.Distances.{Distances, Marks};
+ghost use Rattle.distance.specs.Distances.{Distances};
 ghost use Rattle.distance.specs.Marks.{Cleared, Marked, Spread, Layered};
 
 // Takes all marks away.
@@ -100,14 +99,4 @@ pub fn fill(
         }
         mark += 1;
     }
-}
-
-// Whether a mark says at most k friendships.
-pub fn within(mark: usize, k: usize) -> bool
-    ensures { λ r. ⌜ Decides r (Marks mark k) ⌝ }
-{
-    if mark == 0 {
-        return false;
-    }
-    mark - 1 <= k
 }

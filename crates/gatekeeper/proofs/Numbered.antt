@@ -4,6 +4,7 @@ use mathlib.Core.Path.{_≡_, refl}
 use mathlib.Core.List.{List}
 use native.Mathlib.Omega.{arith}
 use Rattle.model.specs.Answers.{Answers}
+use Rattle.model.specs.Calls.{ListAnswered, LengthOf}
 use Rattle.model.specs.SchemeBytes.{schemeNeeds}
 use Rattle.scheme.specs.Checked.{Checked, numberOf as readingNumber}
 use Rattle.scheme.specs.declared.Reading.{Reading}
@@ -12,8 +13,6 @@ use Rattle.requests.specs.Answered.{numberOf, countOf, ListCalled}
 use Rattle.requests.specs.declared.Listed.{Listed}
 use Rattle.requests.specs.declared.Listed.the-variants.{Friends, Refused}
 use Rattle.model.proofs.Answering.{answers-unique}
-use Rattle.gatekeeper.specs.Length.{LengthOf}
-use Rattle.gatekeeper.specs.Listing.{ListAnswered}
 
 pub check-number : (b : List ℕ) (x : Reading) {k : ℕ} → Checked b x → k ≡ readingNumber x → Answers (schemeNeeds b) k
 check-number b (Accepted c) h e = rw e (h .0)
@@ -32,12 +31,12 @@ module _ (b net : List ℕ) (v u : ℕ) (out : List ℕ) (count : ℕ) (after : 
   -- granted, and the count written
   pub list-granted : (x : Listed) {k count′ : ℕ} → ListCalled b net v u out x after → k ≡ numberOf x → k ≡ 0 → count′ ≡ countOf x
       → ListAnswered b net v u out count k after count′
-  list-granted (Friends n) h e z w = rw (e, w) (record { left = h; kept = λ unlike. absurd (unlike refl) })
-  list-granted (Refused zero) h e z w = rw (e, w) (record { left = h; kept = λ unlike. absurd (unlike refl) })
+  list-granted (Friends n) h e z w = rw (e, w) (record { left = h .left; kept = λ unlike. absurd (unlike refl) })
+  list-granted (Refused zero) h e z w = absurd (omega (arith, h .numbered))
   list-granted (Refused (suc m)) h e z w = absurd (omega arith)
 
   -- refused, and the count left alone
   pub list-refused : (x : Listed) {k : ℕ} → ListCalled b net v u out x after → k ≡ numberOf x → (k ≡ 0 → ⊥) → ListAnswered b net v u out count k after count
   list-refused (Friends n) h e unlike = absurd (unlike e)
   list-refused (Refused zero) h e unlike = absurd (unlike e)
-  list-refused (Refused (suc m)) h e unlike = rw e (record { left = h; kept = λ _. refl })
+  list-refused (Refused (suc m)) h e unlike = rw e (record { left = h .left; kept = λ _. refl })

@@ -1,12 +1,9 @@
 // The calls for other languages, on numbers and lent slices. A slice stands in C as a pointer and a count of elements.
 use scheme::Reading;
 ghost use Rattle.model.specs.Answers.{Answers};
-ghost use Rattle.model.specs.Calls.{Called, Freshened};
-ghost use Rattle.model.specs.Requests.{event, set-policy, find, view};
+ghost use Rattle.model.specs.Calls.{Called, Freshened, ListAnswered, LengthOf};
+ghost use Rattle.model.specs.Requests.{event, set-policy, find, view, answered};
 ghost use Rattle.model.specs.SchemeBytes.{schemeNeeds};
-ghost use Rattle.requests.specs.Answered.{answered};
-ghost use Rattle.gatekeeper.specs.Length.{LengthOf};
-ghost use Rattle.gatekeeper.specs.Listing.{ListAnswered};
 
 // The scheme check.
 #[no_mangle]
@@ -47,7 +44,7 @@ pub extern "C" fn gatekeeper_event(
 ) -> u8
     ensures { λ k. ⌜ Called (now (scheme .entry)) (now (network .entry)) (answered (event v u a) k) (now (network .exit)) ⌝ }
 {
-    requests::event(scheme, network, v, u, a)
+    changes::event(scheme, network, v, u, a)
 }
 
 // Set: u chooses policy p for resource r.
@@ -61,7 +58,7 @@ pub extern "C" fn gatekeeper_set(
 ) -> u8
     ensures { λ k. ⌜ Called (now (scheme .entry)) (now (network .entry)) (answered (set-policy u r p) k) (now (network .exit)) ⌝ }
 {
-    requests::set(scheme, network, u, r, p)
+    changes::set(scheme, network, u, r, p)
 }
 
 // Find: whether v finds u.

@@ -1,4 +1,4 @@
-// The log reader (document 01, "Next log record").
+// The records of a log (document 01, "Next log record").
 use kinds::Request;
 ghost use mathlib.Core.Path.{_≡_};
 ghost use Rattle.log.specs.Read.{SaidAt, Read};
@@ -67,26 +67,4 @@ pub fn read(log: &[u8], place: usize) -> Step
         Answer::Refused => Step { answer, place },
         Answer::Ended => Step { answer, place },
     }
-}
-
-// The log reader: it stands over the lent log, at a place.
-pub struct Reader<'a> {
-    pub log: &'a [u8],
-    pub place: usize,
-}
-
-// A reader over the log, at a place.
-pub fn open<'a>(log: &'a [u8], place: usize) -> Reader<'a>
-    ensures { λ r. ⌜ (r .log ≡ log .entry) × (r .place ≡ place) ⌝ }
-{
-    Reader { log, place }
-}
-
-// The next answer. The reader moves past the record of a request; at the end, and after a 14, it stays.
-pub fn next<'s, 'a>(reader: &'s mut Reader<'a>) -> Answer
-    ensures { λ r. ⌜ (now (reader .exit) .log ≡ now (reader .entry) .log) × Read (now (now (reader .entry) .log)) (now (reader .entry) .place) r (now (reader .exit) .place) ⌝ }
-{
-    let step = read(reader.log, reader.place);
-    reader.place = step.place;
-    step.answer
 }

@@ -1,8 +1,8 @@
 -- The laws of `digit x p = x / 2 ^ p % 2` over the machine's operations, and of the lowest bit.
-use mathlib.Core.Path.{_≡_, refl, sym, ap, _∙_, subst}
+use mathlib.Core.Path.{_≡_, refl, sym, ap, ap₂, _∙_, subst}
 use mathlib.Core.Bool.{Bool, true, false, cond, _&&_, and-false}
 use Prim.Native.Nat.{ℕ, zero, suc, _+_, _*_, _/_, _%_, _^_, _≤_, _<_, min, max}
-use native.Mathlib.Nat.{zero-div, mul-assoc, le-dest, div-one, div-div-eq-div-mul, pow-succ', pow-zero, two-pow-succ, div-eq-of-lt, mod-lt, zero-lt-suc, not-suc-le-zero, le-of-suc-le-suc, div-lt-iff-lt-mul, div-le-self, pow-suc}
+use native.Mathlib.Nat.{zero-div, mul-assoc, le-dest, div-one, div-div-eq-div-mul, pow-succ', pow-zero, two-pow-succ, div-eq-of-lt, mod-lt, zero-lt-suc, not-suc-le-zero, le-of-suc-le-suc, div-lt-iff-lt-mul, div-le-self, pow-suc, div-add-mod'}
 use native.Mathlib.Decide.{ℕ-discrete, decLt}
 use native.Mathlib.Omega.{arith}
 use borrow.Author.Tests.{eq-eqb, ne-eqb, eqb-true, eqb-false}
@@ -202,6 +202,22 @@ lowest-is x q a h n = lowest-from-is x 0 32 q (omega arith) (omega arith) h (λ 
 
 half-lt : {x : ℕ} (k : ℕ) → x < 2 ^ suc k → x / 2 < 2 ^ k
 half-lt {x} k h = div-lt-iff-lt-mul two-pos .1 (subst (λ (y : ℕ). x < y) (pow-suc 2 k) h)
+
+digit-ext : (k x y : ℕ) → x < 2 ^ k → y < 2 ^ k → ((p : ℕ) → p < k → digit x p ≡ digit y p) → x ≡ y
+digit-ext zero x y hx hy h = lt-one hx ∙ sym (lt-one hy)
+digit-ext (suc k) x y hx hy h =
+    let low : x % 2 ≡ y % 2 = sym (digit-zero x) ∙ h 0 (zero-lt-suc k) ∙ digit-zero y in
+    let high : x / 2 ≡ y / 2 =
+    digit-ext k (x / 2) (y / 2) (half-lt k hx) (half-lt k hy) (λ p l. sym (digit-suc x p) ∙ h (suc p) (omega arith) ∙ digit-suc y p) in
+    sym (div-add-mod' x 2) ∙ ap₂ (λ (q r : ℕ). q * 2 + r) high low ∙ div-add-mod' y 2
+
+same-digit : (x y p : ℕ) (b : Bool) → bit x p ≡ b → bit y p ≡ b → digit x p ≡ digit y p
+same-digit x y p true e f = yes-bit x p e ∙ sym (yes-bit y p f)
+same-digit x y p false e f = no-bit x p e ∙ sym (no-bit y p f)
+
+-- sets with the same members are one
+pub set-ext : (k x y : ℕ) → NoBitFrom k x → NoBitFrom k y → ((p : ℕ) → p < k → bit x p ≡ bit y p) → x ≡ y
+set-ext k x y n m h = digit-ext k x y (no-bit-below k x n) (no-bit-below k y m) (λ p l. same-digit x y p (bit y p) (h p l) refl)
 
 -- q is the lowest place with digit 1
 record Lowest (x k q : ℕ) : Type 0 where

@@ -3,13 +3,14 @@ use Prim.Native.Nat.{ℕ, zero, suc, _+_, _<_}
 use mathlib.Core.Path.{_≡_, refl, sym, _∙_, ap, ap₂}
 use mathlib.Core.List.{List, [], _++_}
 use native.Mathlib.Omega.{arith}
+use native.Mathlib.Decide.{ℕ-discrete}
 use lib.ListN.{length, take, drop, set, take-append-drop, length-append, length-set}
 use lib.Seq.{length-take-le, take-at, drop-at, drop-drop, drop-set-lt}
 use Rattle.model.specs.Scheme.{Scheme}
-use Rattle.model.specs.SchemeBytes.{schemeOf}
+use Rattle.model.specs.SchemeBytes.{schemeOf, Accepted}
 use Rattle.model.specs.Network.{Maps, held}
 use Rattle.model.specs.Requests.{Request, event, set-policy, find, list, view, writes, granted}
-use Rattle.model.specs.Calls.{puts, callNeeds, FrontOnly, Left}
+use Rattle.model.specs.Calls.{puts, callNeeds, FrontOnly, Left, ListAnswered, LengthOf}
 use Rattle.model.proofs.Answering.{answers-unique}
 
 -- the list stands at the front, and behind it what stood there
@@ -82,3 +83,29 @@ module _ (b net : List ℕ) (q : Request) (out : List ℕ) where
   -- and so does one that is no list
   pub plain-left : {k n : ℕ} {o after : List ℕ} → ((v u places : ℕ) → q ≡ list v u places → ⊥) → Left b net q out k n o after → (n ≡ 0) × (o ≡ out)
   plain-left {k} plain l = nothing-written (l .front) (l .called .wrote ∙ none-granted k (λ z. lists-alone _ _ q plain))
+
+-- one length, whether or not the scheme is accepted
+pub length-once : (b : List ℕ) (r r' : ℕ) → LengthOf b r → LengthOf b r' → r ≡ r'
+length-once b r r' f g = go (ℕ-discrete r r')
+  where
+    go : Dec (r ≡ r') → r ≡ r'
+    go (yes e) = e
+    go (no n) =
+        let not : Accepted b → ⊥ = λ a. n (f .accepted a ∙ sym (g .accepted a)) in
+        f .refused not ∙ sym (g .refused not)
+
+-- one answer, one output and one count
+pub list-once : (b net : List ℕ) (v u : ℕ) (out : List ℕ) (count k k' : ℕ) (after after' : List ℕ) (n n' : ℕ)
+    → ListAnswered b net v u out count k after n
+    → ListAnswered b net v u out count k' after' n'
+    → (k ≡ k') × (after ≡ after') × (n ≡ n')
+list-once b net v u out count k k' after after' n n' f g =
+    let (e, c, o, same) = left-once b net (list v u (length out)) out (f .left) (g .left) in
+    (e, o, counted k k' e f g c)
+  where
+    counted : (x y : ℕ) → x ≡ y → ListAnswered b net v u out count x after n → ListAnswered b net v u out count y after' n'
+        → granted x n 0 ≡ granted y n' 0 → n ≡ n'
+    counted zero zero e p q c = c
+    counted zero (suc y) e p q c = absurd (omega arith)
+    counted (suc x) zero e p q c = absurd (omega arith)
+    counted (suc x) (suc y) e p q c = p .kept (λ z. omega arith) ∙ sym (q .kept (λ z. omega arith))

@@ -19,7 +19,10 @@ pub mod Symmetry
 pub mod KeepsFit
 -- the log, the standard scheme, the examples
 pub mod Logging
+pub mod Texts
 pub mod StandardRead
+pub mod Meaning
+pub mod SessionRead
 pub mod Exemplified
 -- the claims
 pub mod Once
@@ -28,3 +31,8 @@ pub mod Replayed
 pub mod Unseen
 pub mod Tracing
 pub mod Playing
+pub mod Happening
+-- what the claims speak of
+pub mod Similarity
+pub mod HiddenRecipe
+pub mod SessionTexts

@@ -16,16 +16,16 @@ use Rattle.model.proofs.Deciding.{is-true, conj}
 use Rattle.model.proofs.Judging.{judged}
 use Rattle.model.proofs.StandardRead.{standard-accepted}
 
-play : Scheme → Maps → List Request → List Turn
+unfoldable pub play : Scheme → Maps → List Request → List Turn
 play c s [] = []
 play c s (q ∷ qs) = let t = turn c s q in t ∷ play c (after c s t) qs
 
 -- each walk came to its end
-all-sure : Scheme → Maps → List Request → Bool
+unfoldable pub all-sure : Scheme → Maps → List Request → Bool
 all-sure c s [] = true
 all-sure c s (q ∷ qs) = sure (world c s) (asks q) && all-sure c (after c s (turn c s q)) qs
 
-plays : (c : Scheme) (s : Maps) (qs : List Request) → all-sure c s qs ≡ true → Runs c s (play c s qs)
+pub plays : (c : Scheme) (s : Maps) (qs : List Request) → all-sure c s qs ≡ true → Runs c s (play c s qs)
 unfolding play turn all-sure
 plays c s [] e = tt
 plays c s (q ∷ qs) e =
@@ -42,6 +42,7 @@ session-sure = refl
 
 pub sixteen-lines : SixteenLines
 sixteen-lines = (
+  refl,
   standard-accepted 4 (omega arith) (omega arith),
   rw session-played at (plays (schemeOf (standardBytes 4)) (fresh (schemeOf (standardBytes 4))) (requests session) session-sure),
 )

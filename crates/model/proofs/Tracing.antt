@@ -82,7 +82,7 @@ numbered c s (list v u n) = omega arith
 numbered c s (view v u o) = omega arith
 
 -- one call on a whole network, under an accepted scheme
-called : (b : List ℕ) → Accepted b → (net : List ℕ) (t : Turn) (left : List ℕ) → Valid (schemeOf b) net → Called b net t left
+pub called : (b : List ℕ) → Accepted b → (net : List ℕ) (t : Turn) (left : List ℕ) → Valid (schemeOf b) net → Called b net t left
     → Judged (schemeOf b) (held (schemeOf b) net) t × (held (schemeOf b) left ≡ after (schemeOf b) (held (schemeOf b) net) t) × Valid (schemeOf b) left
 unfolding Kept
 called b a net t left w k = go (past (schemeNeeds b) ((5, Valid c net) ∷ needs c (held c net) (t .request)) (t .answer) (granted-met (schemeNeeds b) (omega arith) a) (k .answered))
@@ -126,7 +126,7 @@ matches-runs c s ((t, net) ∷ ts) (j, l, m) = (j, matches-runs c (after c s t) 
 -- every list of calls; a call is at least what `Called` says
 module _ (Calls : Call) (sound : (b net : List ℕ) (t : Turn) (after : List ℕ) → Calls b net t after → Called b net t after) where
   -- the turns are the machine's, and where they end another list could start
-  traced : (b : List ℕ) → Accepted b → (net : List ℕ) (s : Maps) → FromValid b net s → (ts : Trace) → Happens Calls b net ts
+  pub traced : (b : List ℕ) → Accepted b → (net : List ℕ) (s : Maps) → FromValid b net s → (ts : Trace) → Happens Calls b net ts
       → Matches (schemeOf b) s ts × FromValid b (lastBytes net ts) (afterAll (schemeOf b) s (turns ts))
   traced b a net s f [] k = (tt, f)
   traced b a net s (w, e) ((t, left) ∷ ts) (k, ks) =

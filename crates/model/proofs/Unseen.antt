@@ -198,7 +198,7 @@ module _ (c : Scheme) (u : ℕ) where
       go (yes e) (inr (i, inl h)) = inl (answers-unique (needs c s' (view v w o)) k k' (inr (i, inl h)) j')
       go (yes e) (inr (i, inr (h, inl (n, z)))) =
           inl (answers-unique (needs c s' (view v w o)) k k' (inr (i, inr (h, inl (λ f. n (finds-same s' s (apart-sym s s' a) v w f), z)))) j')
-      go (yes e) (inr (i, inr (h, inr (f, l)))) = inr (v, o, h, ap (λ (x : ℕ). view v x o) e, rw (← e) f)
+      go (yes e) (inr (i, inr (h, inr (f, l)))) = inr (v, o, omega (arith, i .0), h, ap (λ (x : ℕ). view v x o) e, rw (← e) f)
 
   -- a request that writes nothing
   nothing : (s : Maps) (t : Turn) → writes c s (t .request) ≡ [] → Judged c s t → t .written ≡ []
@@ -230,13 +230,13 @@ module _ (c : Scheme) (u : ℕ) where
         j .wrote ∙ rw (k, writes-same s s' a (t .request), e) (sym (j' .wrote)),
         rw (k, e) (granted-apart (t' .answer) _ _ _ _ (does-apart s s' a (t' .request)) a),
       )
-      go (inr (v, o, b, q, f)) = (
-        inr (inr (v, o, b, q, f)),
+      go (inr (v, o, m, b, q, f)) = (
+        inr (inr (v, o, m, b, q, f)),
         nothing s t (ap (writes c s) q) j ∙ sym (nothing s' t' (ap (writes c s') (sym e ∙ q)) j'),
         rw (unmoved s t (ap (does c s) q), unmoved s' t' (ap (does c s') (sym e ∙ q))) a,
       )
-  turn-alike s s' a t t' (inr (r, p, p', i, e, e')) j j' = (
-    inr (inl (r, p, p', i, e, e')),
+  turn-alike s s' a t t' (inr (r, p, p', i, n, e, e')) j j' = (
+    inr (inl (r, p, p', i, n, e, e')),
     nothing s t (ap (writes c s) e) j ∙ sym (nothing s' t' (ap (writes c s') e') j'),
     rw (e, e') (apart-trans _ _ _ (item-apart (t .answer) s r p i) (apart-trans _ _ _ a (apart-sym _ _ (item-apart (t' .answer) s' r p' i)))),
   )

@@ -1,4 +1,4 @@
--- Which answer a call gives: requirements in their order, each with the number that is answered where it is not met.
+-- Which answer a call gives: requirements in their order, each with the number that is answered where it is not met (docs/reference.md, "Answers").
 use Prim.Native.Nat.{ℕ}
 use mathlib.Core.Path.{_≡_}
 use mathlib.Core.List.{List, [], _∷_}

@@ -1,4 +1,4 @@
--- Bytes, the numbers and records that they hold, and bits (document 01, "Scheme").
+-- Bytes, the numbers and records that they hold, and bits (docs/reference.md, "Records").
 use Prim.Native.Nat.{ℕ, _+_, _*_, _/_, _%_, _^_, _≤_}
 use mathlib.Core.Path.{_≡_}
 use mathlib.Core.Bool.{Bool, false}

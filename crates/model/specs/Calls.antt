@@ -1,11 +1,11 @@
--- What each call promises of the bytes that it is lent (document 01, "The calls").
+-- What each call promises of the bytes that it is lent (docs/reference.md, "The calls").
 use Prim.Native.Nat.{ℕ, _≤_, min, max}
 use mathlib.Core.Path.{_≡_}
 use mathlib.Core.List.{List, [], _∷_, _++_}
 use lib.ListN.{length, take, drop, set}
 use Rattle.model.specs.Answers.{Requirement, Answers}
 use Rattle.model.specs.Scheme.{Scheme}
-use Rattle.model.specs.SchemeBytes.{schemeOf, schemeNeeds}
+use Rattle.model.specs.SchemeBytes.{schemeOf, schemeNeeds, Accepted}
 use Rattle.model.specs.Network.{fresh, pairPlace, settingPlace, size, Laid, held, Valid}
 use Rattle.model.specs.Requests.{Request, event, set-policy, find, list, view, next, needs, writes, Turn, granted}
 
@@ -50,3 +50,13 @@ pub record FrontOnly (count : ℕ) (out after : List ℕ) : Type 0 where
 pub record Left (b net : List ℕ) (q : Request) (out : List ℕ) (answer count : ℕ) (out' net' : List ℕ) : Type 0 where
   pub called : Called b net (record { request = q; answer = answer; written = take count out' }) net'
   pub front : FrontOnly count out out'
+
+-- what a list's call leaves where its count goes through a lent place, which a refusal leaves alone
+pub record ListAnswered (b net : List ℕ) (v u : ℕ) (out : List ℕ) (count : ℕ) (answer : ℕ) (after : List ℕ) (count′ : ℕ) : Type 0 where
+  pub left : Left b net (list v u (length out)) out answer (granted answer count′ 0) after net
+  pub kept : (answer ≡ 0 → ⊥) → count′ ≡ count
+
+-- the length of a network under an accepted scheme; 0 under any other
+pub record LengthOf (b : List ℕ) (r : ℕ) : Type 0 where
+  pub accepted : Accepted b → r ≡ size (schemeOf b)
+  pub refused : (Accepted b → ⊥) → r ≡ 0

@@ -1,4 +1,5 @@
--- What is claimed of every list of calls (demand 3): `traces::claims` ensures each.
+-- What is claimed of every list of calls (docs/reference.md, "The plain machine"): `claims::claims` ensures each, `exported::claims` those of
+-- the exported calls.
 use Prim.Native.Nat.{ℕ, _+_, _<_}
 use mathlib.Core.Path.{_≡_}
 use mathlib.Core.List.{List}

@@ -1,4 +1,4 @@
--- The answer of a test.
+-- The answer of a test (docs/reference.md, "Answers").
 use mathlib.Core.Bool.{Bool, true, false}
 
 -- the answer says whether P holds

@@ -1,4 +1,4 @@
--- Small examples of the policies and of the requests.
+-- Small examples of the policies and of the requests (docs/reference.md, "Worked examples").
 use Prim.Native.Nat.{ℕ}
 use mathlib.Core.Path.{_≡_}
 use mathlib.Core.Bool.{Bool, true, false, _&&_, _||_, cond}

@@ -1,4 +1,4 @@
--- Finding (document 01, "Finding").
+-- Finding (docs/reference.md, "Finding").
 use Prim.Native.Nat.{ℕ, _<_}
 use mathlib.Core.Path.{_≡_}
 use mathlib.Core.List.{List}

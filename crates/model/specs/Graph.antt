@@ -1,4 +1,4 @@
--- Friendship graphs: walks, shared friends and cliques (document 01, "Policies").
+-- Friendship graphs: walks, shared friends and cliques (docs/reference.md, "Policies").
 use Prim.Native.Nat.{ℕ, zero, suc, _+_, _<_, _≤_}
 use mathlib.Core.Path.{_≡_}
 use mathlib.Core.Bool.{Bool, true, false, _&&_}

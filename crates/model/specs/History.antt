@@ -1,4 +1,4 @@
--- A pair's run and the last granted settings, taken from what was granted alone (document 01, "Demand 3's plain machine").
+-- A pair's run and the last granted settings, taken from what was granted alone (docs/reference.md, "The plain machine").
 use Prim.Native.Nat.{ℕ, min, max}
 use mathlib.Core.Bool.{_&&_, cond}
 use mathlib.Core.List.{List, [], _∷_, _++_}

@@ -1,4 +1,4 @@
--- The definitions of document 01, in its order as far as each rests on those above it.
+-- The definitions of docs/reference.md, in its order as far as each rests on those above it.
 
 -- answers, tests, bytes
 pub mod Answers
@@ -17,14 +17,18 @@ pub mod Network
 pub mod Requests
 pub mod Calls
 pub mod Log
--- "Demand 3's plain machine"
+pub mod Text
+-- "The plain machine"
 pub mod Machine
 pub mod History
 pub mod TwoLists
 pub mod Traces
 pub mod Claims
--- "Standard scheme and a session"
+-- "The standard scheme", "The session"
 pub mod Standard
 pub mod Session
+pub mod Meaning
+pub mod SessionText
 -- worked examples
 pub mod Examples
+pub mod HiddenRecipe

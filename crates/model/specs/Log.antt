@@ -1,4 +1,4 @@
--- A log's records (document 01, "Next log record").
+-- A log's records (docs/reference.md, "The log").
 use Prim.Native.Nat.{ℕ, _+_, _≤_}
 use mathlib.Core.Path.{_≡_}
 use mathlib.Core.List.{List, [], _∷_}

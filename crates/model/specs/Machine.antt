@@ -1,4 +1,4 @@
--- The plain machine (document 01, "Demand 3's plain machine").
+-- The plain machine (docs/reference.md, "The plain machine").
 use mathlib.Core.Path.{_≡_}
 use mathlib.Core.List.{List, [], _∷_}
 use Rattle.model.specs.Answers.{Answers}

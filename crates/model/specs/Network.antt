@@ -1,4 +1,4 @@
--- Networks: the two maps, the bytes that hold them, and the graph that they give (document 01, "Network").
+-- Networks: the two maps, the bytes that hold them, and the graph that they give (docs/reference.md, "Network").
 use Prim.Native.Nat.{ℕ, _+_, _*_, _/_, _-_, _<_, min, max}
 use mathlib.Core.Path.{_≡_}
 use mathlib.Core.Bool.{Bool, true, _&&_, not, cond}

@@ -1,4 +1,4 @@
--- Policies: whom an owner's setting admits (document 01, "Policies").
+-- Policies: whom an owner's setting admits (docs/reference.md, "Policies").
 use Prim.Native.Nat.{ℕ, _<_, _≤_}
 use mathlib.Core.Path.{_≡_}
 use mathlib.Core.Bool.{true}

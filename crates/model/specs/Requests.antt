@@ -1,4 +1,4 @@
--- The five requests, judged on a network's two maps (document 01, "The calls").
+-- The five requests, judged on a network's two maps (docs/reference.md, "The calls").
 use Prim.Native.Nat.{ℕ, zero, suc, _+_, _<_, _≤_, min, max}
 use mathlib.Core.Path.{_≡_}
 use mathlib.Core.Bool.{Bool, true, _&&_, cond}
@@ -91,6 +91,10 @@ pub record Turn : Type 0 where
   pub request : Request
   pub answer : ℕ
   pub written : List ℕ
+
+-- the turn of a call that writes no list
+abbrev pub answered : Request → ℕ → Turn
+answered q k = record { request = q; answer = k; written = [] }
 
 -- the first where the answer is a grant, else the second
 abbrev pub granted {ℓ} : {A : Type ℓ} → ℕ → A → A → A

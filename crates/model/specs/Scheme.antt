@@ -1,4 +1,4 @@
--- Schemes (document 01, "Scheme").
+-- Schemes (docs/reference.md, "Scheme").
 use Prim.Native.Nat.{ℕ, zero, suc, _+_}
 use mathlib.Core.Bool.{Bool, cond}
 use Rattle.model.specs.Bytes.{bit}

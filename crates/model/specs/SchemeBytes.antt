@@ -1,4 +1,4 @@
--- A scheme's bytes and the scheme check (document 01, "Scheme", "Policies", "Scheme check").
+-- A scheme's bytes and the scheme check (docs/reference.md, "Scheme", "Policies", "Scheme check").
 use Prim.Native.Nat.{ℕ, zero, suc, _+_, _*_, _<_, _≤_}
 use mathlib.Core.Path.{_≡_}
 use mathlib.Core.Bool.{false}

@@ -1,4 +1,4 @@
--- The standard scheme, as document 01 lists it and as bytes (document 01, "Standard scheme and a session").
+-- The standard scheme, as tables and as bytes (docs/reference.md, "The standard scheme").
 use Prim.Native.Nat.{ℕ, _+_, _/_, _%_, _^_, _<_}
 use mathlib.Core.Path.{_≡_}
 use mathlib.Core.Bool.{_&&_, cond}

@@ -1,9 +1,10 @@
--- Lists of calls, each on the network that the one before it left (document 01, "Demand 3's plain machine").
+-- Lists of calls, each on the network that the one before it left (docs/reference.md, "The plain machine").
 use Prim.Native.Nat.{ℕ}
 use mathlib.Core.List.{List, [], _∷_}
 use Rattle.model.specs.Scheme.{Scheme}
 use Rattle.model.specs.Network.{Maps, Laid}
-use Rattle.model.specs.Requests.{Turn}
+use Rattle.model.specs.Requests.{Turn, granted}
+use Rattle.model.specs.Calls.{puts}
 use Rattle.model.specs.Machine.{Judged, after}
 
 -- a trace: turns, with the bytes after each
@@ -31,3 +32,9 @@ Call = List ℕ → List ℕ → Turn → List ℕ → Type 0
 abbrev pub Happens : Call → List ℕ → List ℕ → Trace → Type 0
 Happens Calls b net [] = Unit {0}
 Happens Calls b net ((t, after) ∷ ts) = Calls b net t after × Happens Calls b after ts
+
+-- turns with the bytes that each leaves
+abbrev pub traceOf : Scheme → List ℕ → List Turn → Trace
+traceOf c net [] = []
+traceOf c net (t ∷ ts) =
+    (t, granted (t .answer) (puts c net (t .request)) net) ∷ traceOf c (granted (t .answer) (puts c net (t .request)) net) ts

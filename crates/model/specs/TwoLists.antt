@@ -1,4 +1,4 @@
--- Two lists that differ in what one member chooses for its items (document 01, "Demand 3's plain machine").
+-- Two lists that differ in what one member chooses for its items (docs/reference.md, "The plain machine").
 use Prim.Native.Nat.{ℕ, _+_, _<_, _≤_}
 use mathlib.Core.Path.{_≡_}
 use mathlib.Core.List.{List, [], _∷_}
@@ -15,9 +15,9 @@ abbrev pub Item : Scheme → ℕ → Type 0
 Item c r = (2 + c .primitives ≤ r) × (r < resources c)
 
 module _ (c : Scheme) (u : ℕ) where
-  -- two choices of one item of u
+  -- two different choices for one item of u
   abbrev pub Changed : Request → Request → Type 0
-  Changed q q' = (r p p' : ℕ) × Item c r × (q ≡ set-policy u r p) × (q' ≡ set-policy u r p')
+  Changed q q' = (r p p' : ℕ) × Item c r × (p ≡ p' → ⊥) × (q ≡ set-policy u r p) × (q' ≡ set-policy u r p')
 
   -- the same requests but for the p of choices of u's items
   abbrev pub Similar : List Turn → List Turn → Type 0
@@ -29,7 +29,7 @@ module _ (c : Scheme) (u : ℕ) where
 
   -- a view of an item of u's by a member that finds u
   abbrev pub Viewed : Maps → Request → Type 0
-  Viewed s q = (v o : ℕ) × (o < c .items) × (q ≡ view v u o) × Finds (world c s) v u
+  Viewed s q = (v o : ℕ) × (v < c .members) × (o < c .items) × (q ≡ view v u o) × Finds (world c s) v u
 
   -- equal lists, and equal answers but to those choices and to such views, on the maps at that moment
   abbrev pub Alike : Maps → List Turn → List Turn → Type 0

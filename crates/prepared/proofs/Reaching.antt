@@ -12,10 +12,10 @@ use types.Run.{OneOf, miss}
 use denote.Enum.Declared.{tagOf}
 use Rattle.model.specs.Policies.{Policy, within}
 use Rattle.model.specs.SchemeBytes.{schemeOf}
-use Rattle.tables.specs.declared.Rule.{Rule}
-use Rattle.tables.specs.declared.Rule.the-variants.{NoOne, Everyone, Owner, Within, Known, Clique, State, Both, Either}
-use Rattle.tables.specs.Rules.{policyOfRule, kindOf, RuleAt}
-use Rattle.tables.proofs.Rule.{the-type}
+use Rattle.rules.specs.declared.Rule.{Rule}
+use Rattle.rules.specs.declared.Rule.the-variants.{NoOne, Everyone, Owner, Within, Known, Clique, State, Both, Either}
+use Rattle.rules.specs.Rules.{policyOfRule, kindOf, RuleAt}
+use Rattle.rules.proofs.Rule.{the-type}
 use Rattle.prepared.specs.Reading.{Reach, Farthest, SomeOfKind}
 
 -- a rule's tag is its policy's kind

@@ -5,8 +5,8 @@ use mathlib.Core.List.{List}
 use mathlib.Core.Logic.{_⊎_}
 use Rattle.model.specs.Policies.{Policy, within}
 use Rattle.model.specs.SchemeBytes.{schemeOf}
-use Rattle.tables.specs.Rules.{policyOfRule, kindOf, RuleFits}
-use Rattle.tables.specs.declared.Rule.{Rule}
+use Rattle.rules.specs.Rules.{policyOfRule, kindOf, RuleFits}
+use Rattle.rules.specs.declared.Rule.{Rule}
 
 -- k is that of a rule of kind within, and 0 of any other
 pub record Reach (rule : Rule) (k : ℕ) : Type 0 where

@@ -1,5 +1,5 @@
 // What policies read of an accessor, computed once for all owners.
-use tables::Rule;
+use rules::Rule;
 use tables::Summary;
 ghost use mathlib.Core.Path.{_≡_};
 ghost use Prim.Native.Nat.{_<_, _≤_};
@@ -8,7 +8,7 @@ ghost use Rattle.model.specs.Decides.{Decides};
 ghost use Rattle.tables.specs.Read.{ReadAs};
 ghost use Rattle.network.specs.Ready.{Ready};
 ghost use Rattle.prepared.specs.Reading.{Reach, Farthest, SomeOfKind};
-ghost use Rattle.prepared.specs.Prepared.{Prepared};
+ghost use Rattle.prepared.specs.Prepared.{Prepared, Written};
 
 // The k of a rule of kind within; 0 of any other.
 fn reach(rule: Rule) -> usize
@@ -28,7 +28,7 @@ fn farthest(scheme: &[u8], c: Summary) -> usize
     let mut most: usize = 0;
     let mut p: usize = 0;
     while p < c.policies {
-        let k = reach(tables::policy(scheme, c, p));
+        let k = reach(rules::policy(scheme, c, p));
         p += 1;
         if k > most {
             most = k;
@@ -44,7 +44,7 @@ pub fn some_of(scheme: &[u8], c: Summary, from: usize, count: usize, wanted: u8)
 {
     let mut p = from;
     while p < count {
-        if tables::kind(scheme, c, p) == wanted {
+        if rules::kind(scheme, c, p) == wanted {
             return true;
         }
         p += 1;
@@ -62,7 +62,8 @@ pub fn prepare(
     rows: &mut [u64],
 )
     requires { ⌜ Ready (now scheme) c (now network) × (v < c .members) × (length (now distances) ≡ 256) × (length (now rows) ≡ 1024) ⌝ }
-    ensures { λ r. ⌜ Prepared (now (scheme .entry)) (now (network .entry)) v (now (distances .exit)) (now (rows .exit)) ⌝ }
+    ensures prepared { λ r. ⌜ Prepared (now (scheme .entry)) (now (network .entry)) v (now (distances .exit)) (now (rows .exit)) ⌝ }
+    ensures written { λ r. ⌜ Written (now (scheme .entry)) (now (network .entry)) v (now (distances .entry)) (now (rows .entry)) (now (distances .exit)) (now (rows .exit)) ⌝ }
 {
     let limit = farthest(scheme, c);
     if limit != 0 {

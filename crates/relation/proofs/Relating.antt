@@ -5,15 +5,15 @@ use mathlib.Core.List.{List, [], _∷_}
 use mathlib.Core.Logic.{_↔_}
 use native.Mathlib.Omega.{arith}
 use Rattle.model.specs.Graph.{Graph, Friends, Within}
-use Rattle.distance.specs.Distances.{Marks}
+use Rattle.distance_mark.specs.Mark.{Marks}
 use Rattle.tables.specs.declared.Summary.{Summary}
 use Rattle.network.specs.Ready.{Ready, graphOf}
 use Rattle.network.proofs.Reading.{ready-range}
 use Rattle.sets.specs.Rows.{AllRows}
 use Rattle.clique.specs.Cliques.{LargestClique}
-use Rattle.clique.specs.Mutual.{RowsOf}
+use Rattle.clique.specs.Mutual.{RowsOf, CliqueSize}
 use Rattle.relation.specs.declared.Relation.{Relation}
-use Rattle.relation.specs.Related.{Related, CliqueSize}
+use Rattle.relation.specs.Related.{Related}
 use Rattle.relation.proofs.Undirected.{network-undirected}
 
 -- less is asked

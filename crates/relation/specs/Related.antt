@@ -7,8 +7,7 @@ use Rattle.model.specs.Graph.{Graph, Within}
 use Rattle.model.specs.Policies.{within}
 use Rattle.model.specs.SchemeBytes.{schemeOf}
 use Rattle.clique.specs.Cliques.{LargestClique}
-use Rattle.clique.specs.Mutual.{RowsOf}
-use Rattle.distance.specs.Distances.{Marks}
+use Rattle.distance_mark.specs.Mark.{Marks}
 use Rattle.known.specs.Acquainted.{Acquainted}
 use Rattle.relation.specs.declared.Relation.{Relation}
 
@@ -21,7 +20,3 @@ pub record Related (g : Graph) (u v : ℕ) (Near : ℕ → Type 0) (Known Sized 
 -- one of the policies from a number on, below the count, is within k
 abbrev pub SomeWithin : List ℕ → ℕ → ℕ → ℕ → Type 0
 SomeWithin b from count k = (p : ℕ) × (from ≤ p) × (p < count) × (schemeOf b .policy p ≡ within k)
-
--- the size is that of the largest clique with u and v, where they are two, in every graph with these rows
-pub record CliqueSize (rows : List ℕ) (u v size : ℕ) : Type 0 where
-  pub largest : (g : Graph) → RowsOf g rows → u < g .members → v < g .members → (u ≡ v → ⊥) → LargestClique g u v size

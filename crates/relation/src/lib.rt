@@ -11,10 +11,11 @@ ghost use Rattle.model.specs.SchemeBytes.{P};
 ghost use Rattle.network.specs.Ready.{Ready, graphOf};
 ghost use Rattle.sets.specs.Rows.{FriendRow, rowOf};
 ghost use Rattle.clique.specs.Cliques.{LargestClique};
+ghost use Rattle.clique.specs.Mutual.{CliqueSize};
 ghost use Rattle.known.specs.Acquainted.{Acquainted};
 ghost use Rattle.prepared.specs.Reading.{SomeOfKind};
 ghost use Rattle.prepared.specs.Prepared.{Prepared};
-ghost use Rattle.relation.specs.Related.{Related, SomeWithin, CliqueSize};
+ghost use Rattle.relation.specs.Related.{Related, SomeWithin};
 
 // One more than the least number of friendships, 0 where it was not found; the acquaintance; and the members, at most 5, of
 // the largest clique, where owner and accessor are two.
@@ -43,13 +44,13 @@ fn acquaintance(
     Acquaintance::Close
 }
 
-// The size of the largest clique, where it is asked and they are two.
+// The size of the largest clique, where it is asked; of one member at once.
 fn clique_size(rows: &[u64], u: usize, v: usize, asked: bool) -> usize
     requires { ⌜ (length (now rows) ≡ 1024) × (u < 256) × (v < 256) ⌝ }
     ensures { λ r. ⌜ (asked ≡ true → CliqueSize (now (rows .entry)) u v r) ⌝ }
 {
     if u == v {
-        return 0;
+        return 1;
     }
     if asked {
         return clique::largest(rows, u, v);

@@ -1,2 +1,5 @@
-pub mod Lining
-pub mod Starting
+pub mod Ranking
+pub mod Readying
+pub mod Filling
+pub mod Printing
+mod Once

@@ -1,128 +1,103 @@
-// What the log program decides, and its lines (document 01, "Log program").
-use calls::Reply;
-use log::Answer;
-use scheme::Reading;
+// The text of two files, a buffer at a time (document 01, "Log program").
+use fresh_start::Filled;
+use fresh_start::Stand;
+use libc::STDOUT_FILENO;
 ghost use mathlib.Core.Path.{_≡_};
-ghost use Prim.Native.Nat.{_<_, _≤_};
+ghost use Prim.Native.Nat.{_+_, _≤_};
 ghost use lib.ListN.{length};
-ghost use Rattle.replay.specs.Lines.{Started, Overlong, Lined, Followed};
+ghost use Rattle.model.specs.Decides.{Decides};
+ghost use Rattle.fresh_start.specs.Stands.{Ready};
+ghost use Rattle.replay.specs.Fills.{IsOver, Fills, Adds, Printed, Continued};
 
-// How a run starts: on a fresh network of so many bytes, or not, with the number that is printed.
-pub enum Start {
-    Fresh(usize),
-    Refused(u8),
+// How the text was printed: whole, so many bytes; or cut, since a write failed after so many.
+pub enum Outcome {
+    Whole(u64),
+    Cut(u64),
 }
 
-// The line of a record: an answer, how many friends were listed, and the next record's place; an answer that is the last; or none.
-pub enum Line {
-    Next(u8, usize, usize),
-    Last(u8),
-    End,
-}
-
-// The scheme check, 15, and a fresh network at the front of the lent bytes.
-pub fn begin(scheme: &[u8], log: &[u8], network: &mut [u8]) -> Start
-    ensures started { λ r. ⌜ Started (now (scheme .entry)) (now (log .entry)) (now (network .entry)) r (now (network .exit)) ⌝ }
-    ensures overlong { λ r. ⌜ Overlong (now (scheme .entry)) r ⌝ }
+// Whether there is a next step, and room for it: so many bytes are lent for the network, and so many for the text.
+fn ready(here: Filled, network: usize, buffer: usize) -> bool
+    ensures { λ r. ⌜ Decides r (Ready (here .stand) network × (here .used + 1548 ≤ buffer)) ⌝ }
 {
-    let reading = scheme::check(scheme);
-    let Reading::Accepted(c) = reading else {
-        return Start::Refused(scheme::number(reading));
+    if buffer < 1548 {
+        return false;
+    }
+    if buffer - 1548 < here.used {
+        return false;
+    }
+    let stand = here.stand;
+    match stand {
+        Stand::Start => network >= 39296,
+        Stand::At(_, position, size) => position < 65535 && size <= network,
+        Stand::Over => false,
+    }
+}
+
+// Writes as many whole lines as surely fit, from where it stands on.
+pub fn fill(scheme: &[u8], log: &[u8], network: &mut [u8], buffer: &mut [u8], from: Stand) -> Filled
+    ensures { λ r. ⌜ Fills (now (scheme .entry)) (now (log .entry)) (now (network .entry)) (now (buffer .entry)) from r (now (network .exit)) (now (buffer .exit)) ⌝ }
+{
+    let mut here = Filled {
+        stand: from,
+        used: 0,
     };
-    if log.len() > 16384 {
-        return Start::Refused(15);
+    while ready(here, network.len(), buffer.len()) {
+        here = steps::step(scheme, log, network, buffer, here);
     }
-    let size = network::read::size(scheme, c);
-    if network.len() < size {
-        return Start::Refused(5);
-    }
-    fresh::fresh(scheme, &mut network[..size]);
-    Start::Fresh(size)
+    here
 }
 
-fn next(reply: Reply, place: usize) -> Line
-    ensures { λ r. ⌜ r ≡ Line.Next (reply .answer) (reply .count) place ⌝ }
+fn over(here: Stand) -> bool
+    ensures { λ r. ⌜ Decides r (IsOver here) ⌝ }
 {
-    Line::Next(reply.answer, reply.count, place)
-}
-
-// Calls the request of the record at a place of the log.
-pub fn play(scheme: &[u8], log: &[u8], place: usize, network: &mut [u8], output: &mut [u16]) -> Line
-    ensures { λ r. ⌜ Lined (now (scheme .entry)) (now (log .entry)) place (now (network .entry)) (now (output .entry)) r (now (network .exit)) (now (output .exit)) ⌝ }
-{
-    let step = log::read(log, place);
-    let after = step.place;
-    let answer = step.answer;
-    match answer {
-        Answer::Asks(request) => next(calls::call(scheme, network, request, output), after),
-        Answer::Refused => Line::Last(14),
-        Answer::Ended => Line::End,
+    match here {
+        Stand::Start => false,
+        Stand::At(_, _, _) => false,
+        Stand::Over => true,
     }
 }
 
-// A position, an answer, and the friends of a granted list.
-fn print_line(position: u64, answer: u8, friends: &[u16]) {
-    printing::number(position);
-    printing::answer(answer);
-    printing::list(friends);
-    printing::end();
-}
-
-// Prints the line of the record at a place; the next record's place, or the log's length where there is none.
-fn print_record(
-    scheme: &[u8],
-    log: &[u8],
-    place: usize,
-    position: u64,
-    network: &mut [u8],
-    output: &mut [u16],
-) -> usize
-    requires { ⌜ place < length (now log) ⌝ }
-    ensures { λ r. ⌜ Followed (now (log .entry)) (length (now (output .entry))) place r × (place < r) × (r ≤ length (now (log .entry))) ⌝ }
+// Hands bytes over to be written, after so many.
+fn write(bytes: &[u8], written: u64) -> Outcome
+    requires { ⌜ written + length (now bytes) ≤ 18446744073709551615 ⌝ }
+    ensures { λ r. ⌜ Adds written (length (now (bytes .entry))) r ⌝ }
 {
-    let line = play(scheme, log, place, network, output);
-    match line {
-        Line::Next(answer, count, following) => {
-            print_line(position, answer, &output[..count]);
-            following
-        }
-        Line::Last(answer) => {
-            print_line(position, answer, &output[..0]);
-            log.len()
-        }
-        Line::End => log.len(),
+    if !files::write(STDOUT_FILENO, bytes) {
+        return Outcome::Cut(written);
     }
+    Outcome::Whole(written + bytes.len() as u64)
 }
 
-fn print_records(scheme: &[u8], log: &[u8], network: &mut [u8], output: &mut [u16])
-    requires { ⌜ length (now log) ≤ 16384 ⌝ }
+// Writes the text by buffers, up to a write that fails.
+fn print_by(scheme: &[u8], log: &[u8], network: &mut [u8], buffer: &mut [u8]) -> Outcome
+    requires { ⌜ (39296 ≤ length (now network)) × (1548 ≤ length (now buffer)) × (length (now buffer) ≤ 65536) ⌝ }
+    ensures { λ r. ⌜ Printed (now (scheme .entry)) (now (log .entry)) r ⌝ }
 {
-    let mut place: usize = 0;
-    let mut position: u64 = 1;
-    while place < log.len() {
-        place = print_record(scheme, log, place, position, network, output);
-        position += 1;
+    let mut here = Stand::Start;
+    let mut written: u64 = 0;
+    while !over(here) {
+        let filled = fill(scheme, log, network, buffer, here);
+        let used = filled.used;
+        let outcome = write(&buffer[..used], written);
+        let Outcome::Whole(total) = outcome else {
+            return outcome;
+        };
+        written = total;
+        here = filled.stand;
     }
-}
-
-fn print_lines(scheme: &[u8], log: &[u8], network: &mut [u8], output: &mut [u16]) {
-    let start = begin(scheme, log, network);
-    match start {
-        Start::Fresh(size) => print_records(scheme, log, &mut network[..size], output),
-        Start::Refused(number) => print_line(0, number, &output[..0]),
-    }
-}
-
-// The output of a list, for the most members.
-fn places() -> [u16; 256]
-    ensures { λ r. ⌜ 256 ≡ length r ⌝ }
-{
-    [0; 256]
+    Outcome::Whole(written)
 }
 
 // Prints what the log program prints of these two files' bytes.
-pub fn print(scheme: &[u8], log: &[u8]) {
+pub fn print(scheme: &[u8], log: &[u8]) -> Outcome
+    ensures { λ r. ⌜ Printed (now (scheme .entry)) (now (log .entry)) r ⌝ }
+{
     let mut network = io::large_buffer();
-    let mut output = places();
-    print_lines(scheme, log, &mut network, &mut output);
+    let mut buffer = io::large_buffer();
+    print_by(scheme, log, &mut network, &mut buffer)
 }
+
+// What was written and the text from where it stands are the text from where it stood.
+pub fn continued()
+    ensures { λ _. ⌜ Continued ⌝ }
+{}

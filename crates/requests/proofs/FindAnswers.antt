@@ -4,14 +4,13 @@ use mathlib.Core.Path.{refl}
 use mathlib.Core.List.{List, [], _∷_}
 use Rattle.model.specs.Answers.{Requirement, Answers}
 use Rattle.model.specs.Finding.{Finds}
-use Rattle.model.specs.Requests.{find}
+use Rattle.model.specs.Requests.{find, answered}
 use Rattle.model.specs.Calls.{Called}
 use Rattle.scheme.specs.declared.Reading.the-variants.{Accepted, Refused}
 use Rattle.tables.specs.declared.Summary.{Summary}
 use Rattle.network.specs.Ready.{worldOf}
-use Rattle.checks.specs.Opened.{Opened}
-use Rattle.checks.proofs.CallAnswers.{refusal-stands, later-answers}
-use Rattle.requests.specs.Answered.{answered}
+use Rattle.opening.specs.Opened.{Opened}
+use Rattle.opening.proofs.CallAnswers.{refusal-stands, later-answers}
 use Rattle.requests.proofs.Unchanged.{asked-unchanged}
 
 -- what find asks beyond 6

@@ -1,8 +1,5 @@
 pub mod Unchanged
-pub mod EventAnswers
-pub mod SetAnswers
 pub mod FindAnswers
 pub mod ViewAnswers
 pub mod ListAnswers
-pub mod NextState
-pub mod ThoseBelow
+pub mod Once

@@ -15,8 +15,9 @@ use Rattle.scheme.specs.declared.Reading.the-variants.{Accepted, Refused as Ope
 use Rattle.tables.specs.declared.Summary.{Summary}
 use Rattle.network.specs.Ready.{worldOf, graphOf}
 use Rattle.checks.specs.Judged.{judgeNeeds}
-use Rattle.checks.specs.Opened.{Opened}
-use Rattle.checks.proofs.CallAnswers.{refusal-stands, later-answers, past-10}
+use Rattle.opening.specs.Opened.{Opened}
+use Rattle.opening.proofs.CallAnswers.{refusal-stands, later-answers}
+use Rattle.checks.proofs.JudgeAnswers.{past-10}
 use Rattle.requests.specs.declared.Listed.the-variants.{Friends, Refused}
 use Rattle.requests.specs.Answered.{ListCalled}
 
@@ -35,7 +36,10 @@ module _ (b net : List ℕ) (v u places k : ℕ) {c : Summary} (h : Opened b net
 module _ {b net : List ℕ} {v u : ℕ} {out : List ℕ} where
   nothing-written : (k : ℕ) → 1 ≤ k → Answers (callNeeds b net (list v u (length out))) k → ListCalled b net v u out (Refused k) out
   nothing-written zero l a = absurd (omega arith)
-  nothing-written (suc k) l a = record { called = record { answered = a; wrote = refl; bytes = refl }; front = record { within = omega arith; behind = refl } }
+  nothing-written (suc k) l a = record {
+    left = record { called = record { answered = a; wrote = refl; bytes = refl }; front = record { within = omega arith; behind = refl } };
+    numbered = omega arith;
+  }
 
   pub list-refused : {k : ℕ} → Opened b net v u (OpenRefused k) → ListCalled b net v u out (Refused k) out
   list-refused {k} h = nothing-written k (h .1) (refusal-stands b net v u (listLater b net v u (length out)) k h)
@@ -51,10 +55,13 @@ module _ {b net : List ℕ} {v u : ℕ} {out : List ℕ} where
         → (take count after ≡ those (graphOf b net .friends u) (c .members)) × FrontOnly count out after
         → ListCalled b net v u out (Friends count) after
     list-0 z l a (w, f) = record {
-      called = record {
-        answered = judged b net v u (length out) 0 h l (rw z at a);
-        wrote = w ∙ ap (those (graphOf b net .friends u)) (h .0 .counts .members);
-        bytes = refl;
+      left = record {
+        called = record {
+          answered = judged b net v u (length out) 0 h l (rw z at a);
+          wrote = w ∙ ap (those (graphOf b net .friends u)) (h .0 .counts .members);
+          bytes = refl;
+        };
+        front = f;
       };
-      front = f;
+      numbered = tt;
     }

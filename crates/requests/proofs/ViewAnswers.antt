@@ -8,15 +8,15 @@ use native.Mathlib.Omega.{arith}
 use Rattle.model.specs.Answers.{Requirement, Answers}
 use Rattle.model.specs.Finding.{Finds, Allows}
 use Rattle.model.specs.SchemeBytes.{schemeOf}
-use Rattle.model.specs.Requests.{view}
+use Rattle.model.specs.Requests.{view, answered}
 use Rattle.model.specs.Calls.{Called}
 use Rattle.scheme.specs.declared.Reading.the-variants.{Accepted, Refused}
 use Rattle.tables.specs.declared.Summary.{Summary}
 use Rattle.network.specs.Ready.{worldOf}
 use Rattle.checks.specs.Judged.{judgeNeeds}
-use Rattle.checks.specs.Opened.{Opened}
-use Rattle.checks.proofs.CallAnswers.{refusal-stands, later-answers, past-10}
-use Rattle.requests.specs.Answered.{answered}
+use Rattle.opening.specs.Opened.{Opened}
+use Rattle.opening.proofs.CallAnswers.{refusal-stands, later-answers}
+use Rattle.checks.proofs.JudgeAnswers.{past-10}
 use Rattle.requests.proofs.Unchanged.{asked-unchanged}
 
 -- what view asks beyond 6

@@ -4,7 +4,8 @@ ghost use mathlib.Core.Path.{_≡_};
 ghost use Prim.Native.Nat.{_+_, _<_, _≤_};
 ghost use lib.ListN.{length};
 ghost use Rattle.network.specs.Ready.{Ready, graphOf};
-ghost use Rattle.sets.specs.Rows.{FriendRow, AllRows};
+ghost use Rattle.sets.specs.Rows.{FriendRow};
+ghost use Rattle.rows.specs.Filled.{RowsFilled};
 ghost use Rattle.rows.specs.Words.{FirstBits};
 
 // The first bits of u's row from a member on, all of members below u: their states stand side by side.
@@ -84,7 +85,7 @@ pub fn friend_row(scheme: &[u8], c: Summary, network: &[u8], u: usize) -> [u64; 
 // Writes the friend rows of all members, four words each.
 pub fn fill_rows(scheme: &[u8], c: Summary, network: &[u8], rows: &mut [u64])
     requires { ⌜ Ready (now scheme) c (now network) × (length (now rows) ≡ 1024) ⌝ }
-    ensures { λ r. ⌜ (length (now (rows .exit)) ≡ 1024) × AllRows (graphOf (now (scheme .entry)) (now (network .entry))) (now (rows .exit)) ⌝ }
+    ensures { λ r. ⌜ RowsFilled (graphOf (now (scheme .entry)) (now (network .entry))) (now (rows .entry)) (now (rows .exit)) ⌝ }
 {
     let mut m: usize = 0;
     while m < c.members {

@@ -15,7 +15,7 @@ fn marked(scheme: &[u8], c: Summary) -> Summary
     requires { ⌜ ReadAs (now scheme) c ⌝ }
     ensures { λ r. ⌜ CountsOf (now (scheme .entry)) r × MarksOf (now (scheme .entry)) (r .states) (r .marks) ⌝ }
 {
-    let marks = tables::marks(scheme, c);
+    let marks = friend_marks::marks(scheme, c);
     let mut read = c;
     read.marks = marks;
     read

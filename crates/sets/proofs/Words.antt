@@ -129,7 +129,7 @@ pub put-words : (rows row : List ℕ) (m : ℕ) → Words row → m * 4 + 4 ≤ 
 put-words rows row m w h = record {
   long = simp length-set;
   here = rw (at₀, at₁, at₂, at₃) (four-words w);
-  kept = λ k b. rw (below (k * 4) (omega arith), below (k * 4 + 1) (omega arith), below (k * 4 + 2) (omega arith), below (k * 4 + 3) (omega arith));
+  kept = λ k d. rw (other k d (k * 4) (omega arith) (omega arith), other k d (k * 4 + 1) (omega arith) (omega arith), other k d (k * 4 + 2) (omega arith) (omega arith), other k d (k * 4 + 3) (omega arith) (omega arith));
 }
   where
     r₁ : List ℕ
@@ -156,6 +156,6 @@ put-words rows row m w h = record {
     at₃ : getD r₄ (m * 4 + 3) 0 ≡ getD row 3 0
     at₃ = getD-set-same r₃ _ _ 0 (simp length-set (omega arith))
 
-    below : (j : ℕ) → j < m * 4 → getD r₄ j 0 ≡ getD rows j 0
-    below j b =
+    other : (k : ℕ) → (k ≡ m → ⊥) → (j : ℕ) → k * 4 ≤ j → j < k * 4 + 4 → getD r₄ j 0 ≡ getD rows j 0
+    other k d j a b =
         getD-set-other r₃ _ _ _ 0 (omega arith) ∙ getD-set-other r₂ _ _ _ 0 (omega arith) ∙ getD-set-other r₁ _ _ _ 0 (omega arith) ∙ getD-set-other rows _ _ _ 0 (omega arith)

@@ -1,5 +1,5 @@
 -- Operations on sets of members as rows of 256 bits.
-use Prim.Native.Nat.{ℕ, _≤_, _<_}
+use Prim.Native.Nat.{ℕ, _≤_}
 use mathlib.Core.Path.{_≡_}
 use mathlib.Core.Bool.{Bool, true, _&&_}
 use mathlib.Core.List.{List}
@@ -8,11 +8,11 @@ use lib.ListN.{length}
 use Rattle.model.specs.Graph.{Graph, count, shared}
 use Rattle.sets.specs.Rows.{rowBit, rowOf, FriendRow}
 
--- member m's row is written; those below it are as they were
+-- member m's row is written; all others are as they were
 pub record RowPut (before : List ℕ) (m : ℕ) (row after : List ℕ) : Type 0 where
   pub long : length after ≡ length before
   pub here : rowOf after m ≡ row
-  pub kept : (k : ℕ) → k < m → rowOf after k ≡ rowOf before k
+  pub kept : (k : ℕ) → (k ≡ m → ⊥) → rowOf after k ≡ rowOf before k
 
 -- r has the members of both a and b
 pub record Meet (a b r : List ℕ) : Type 0 where

@@ -1,5 +1,5 @@
 -- What a policy admits among strangers.
-use Prim.Native.Nat.{ℕ, zero, suc, _+_, _%_, _^_, _≤_, _<_, zero-le}
+use Prim.Native.Nat.{ℕ, zero, suc, _+_, _^_, _≤_, _<_, zero-le}
 use mathlib.Core.Path.{_≡_, refl, sym, _∙_}
 use mathlib.Core.Bool.{Bool, true, false, _&&_, _||_, not, false≢true}
 use mathlib.Core.List.{List, [], _∷_}
@@ -14,13 +14,13 @@ use Rattle.model.specs.Policies.{OnSide, Admits, known, clique}
 use Rattle.model.specs.Scheme.{lowest}
 use Rattle.model.specs.SchemeBytes.{strangers, sideOf, schemeOf, at3, MaskFits, StrangersApart}
 use Rattle.model.proofs.Sets.{Added, none-in-zero}
-use Rattle.model.proofs.Bits.{digit-zero, bit-yes, yes-bit, bit-below, lowest-in}
+use Rattle.model.proofs.Bits.{bit-below, lowest-in}
 use Rattle.model.proofs.Cliques.{mutual-friends}
 use Rattle.model.proofs.Counting.{count-above}
-use Rattle.model.proofs.Deciding.{Says, says, is-so, iff, conj, disj, is-eq}
-use Rattle.tables.specs.declared.Rule.{Rule}
-use Rattle.tables.specs.declared.Rule.the-variants.{NoOne, Everyone, Owner, Within, Known, Clique as CliqueRule, State, Both, Either}
-use Rattle.tables.specs.Rules.{policyOfRule, RuleFits}
+use Rattle.model.proofs.Deciding.{Says, says, is-so, conj, disj}
+use Rattle.rules.specs.declared.Rule.{Rule}
+use Rattle.rules.specs.declared.Rule.the-variants.{NoOne, Everyone, Owner, Within, Known, Clique as CliqueRule, State, Both, Either}
+use Rattle.rules.specs.Rules.{policyOfRule, RuleFits}
 use Rattle.strangers.specs.Strangers.{AdmitsStranger}
 
 -- what a test of policy w, read as q, says of the set
@@ -35,7 +35,7 @@ answer side set Owner = false
 answer side set (Within k) = false
 answer side set (Known k) = false
 answer side set (CliqueRule k) = false
-answer side set (State states wanted) = eqb (states % 2) 1 && (eqb wanted 0 || eqb wanted side)
+answer side set (State states wanted) = bit states 0 && (eqb wanted 0 || eqb wanted side)
 answer side set (Both left right) = bit set left && bit set right
 answer side set (Either left right) = bit set left || bit set right
 
@@ -51,9 +51,6 @@ side-says (suc (suc zero)) (suc (suc zero)) u v a b w h = says h
 side-says (suc (suc (suc side))) (suc k) u v a b w h = absurd (omega arith)
 side-says (suc zero) (suc (suc (suc k))) u v a b w h = absurd (omega arith)
 side-says (suc (suc zero)) (suc (suc (suc k))) u v a b w h = absurd (omega arith)
-
-state-says : (states : ℕ) → Says (eqb (states % 2) 1) (bit states 0 ≡ true)
-state-says states = iff (λ e. bit-yes states 0 (digit-zero states ∙ e)) (λ e. sym (digit-zero states) ∙ yes-bit states 0 e) (is-eq (states % 2) 1)
 
 -- owner and accessor on a side are two
 sided : (side u v : ℕ) → 1 ≤ side → side ≤ 2 → OnSide (sideOf side) u v → u ≡ v → ⊥
@@ -92,7 +89,7 @@ module _ (b : List ℕ) (side set p : ℕ) (least : 1 ≤ side) (most : side ≤
   rule-says (Within k) f = says (λ (l, s, w). no-walk n u v (sided side u v least most h) l w)
   rule-says (Known k) f = says (no-shared n u v (sided side u v least most h) k f)
   rule-says (CliqueRule k) f = says (no-clique n u v (sided side u v least most h) k)
-  rule-says (State states wanted) f = conj (state-says states) (side-says side wanted u v least most f h)
+  rule-says (State states wanted) f = conj (record { yes-if = λ e. e; no-if = λ e t. false≢true (sym e ∙ t) }) (side-says side wanted u v least most f h)
   rule-says (Both left right) f = conj (operand left (f .0)) (operand right (f .1))
   rule-says (Either left right) f = disj (operand left (f .0)) (operand right (f .1))
 

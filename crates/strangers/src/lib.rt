@@ -1,5 +1,5 @@
 // What strangers may do under a fresh network (document 01, "Scheme check", refusal 4).
-use tables::Rule;
+use rules::Rule;
 use tables::Summary;
 ghost use Prim.Native.Nat.{ℕ, _≤_};
 ghost use Rattle.model.specs.Decides.{Decides};
@@ -7,7 +7,7 @@ ghost use Rattle.model.specs.Policies.{OnSide, Admits};
 ghost use Rattle.model.specs.SchemeBytes.{strangers, sideOf, schemeOf, StrangersApart};
 ghost use Rattle.tables.specs.Read.{ReadAs};
 ghost use Rattle.strangers.specs.Strangers.{AdmitsStranger};
-ghost use Rattle.tables.specs.Rules.{policyOfRule, RuleFits};
+ghost use Rattle.rules.specs.Rules.{policyOfRule, RuleFits};
 
 // Whether a rule admits an accessor on that side of the owner, among strangers; set has the policies below p.
 fn rule_admits(scheme: &[u8], rule: Rule, p: usize, side: u8, set: u32) -> bool
@@ -24,7 +24,7 @@ fn rule_admits(scheme: &[u8], rule: Rule, p: usize, side: u8, set: u32) -> bool
         Rule::State {
             set: states,
             side: wanted,
-        } => states % 2 == 1 && (wanted == 0 || wanted == side),
+        } => tables::offered(states as u32, 0) && (wanted == 0 || wanted == side),
         Rule::Both { left, right } => {
             tables::offered(set, records::wide(left)) && tables::offered(set, records::wide(right))
         }
@@ -42,7 +42,7 @@ fn admitting(scheme: &[u8], c: Summary, side: u8) -> u32
     let mut set: u32 = 0;
     let mut p: usize = 0;
     while p < c.policies {
-        let rule = tables::policy(scheme, c, p);
+        let rule = rules::policy(scheme, c, p);
         if rule_admits(scheme, rule, p, side, set) {
             set = set | (1u32 << p);
         }

@@ -1,6 +1,3 @@
-pub mod Guards
-pub mod Sound
-pub mod Made
-pub mod Refusing
-pub mod Rows
-pub mod Turning
+mod Refusing
+mod Rows
+mod Turning

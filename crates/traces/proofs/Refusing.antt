@@ -10,10 +10,10 @@ use Rattle.model.specs.Requests.{needs, Turn, granted}
 use Rattle.model.specs.Calls.{callNeeds, Called}
 use Rattle.model.specs.Traces.{Trace, Happens}
 use Rattle.model.proofs.Answering.{answers-unique, ahead}
-use Rattle.checks.specs.Opened.{openNeeds}
-use Rattle.traces.specs.Cite.{CallMade}
+use Rattle.opening.specs.Opened.{openNeeds}
+use Rattle.claims.specs.Cite.{CallMade}
 use Rattle.traces.specs.Ran.{AllRefused}
-use Rattle.traces.proofs.Sound.{sound}
+use Rattle.claims.proofs.Sound.{sound}
 
 not-granted : {A : Type 0} (k : ℕ) (x y : A) → (k ≡ 0 → ⊥) → granted k x y ≡ y
 not-granted zero x y n = absurd (n refl)

@@ -5,8 +5,9 @@ use mathlib.Core.List.{List, [], _∷_, _++_}
 use native.Mathlib.Omega.{arith}
 use native.Mathlib.Decide.{decLe}
 use lib.ListN.{length, getD, take, drop, set, take-append-drop, length-drop}
-use lib.Seq.{length-take-le, take-append-le, drop-append-le, take-at, drop-at, take-take, drop-drop, getD-take, getD-drop, getD-set-same, getD-set-other}
-use Rattle.traces.specs.Ran.{placesOf, listsOf}
+use lib.Seq.{length-take-le, take-append-le, drop-append-le, getD-take, getD-drop, getD-set-same, getD-set-other}
+use Rattle.encoded.specs.Encoded.{placesOf}
+use Rattle.traces.specs.Ran.{listsOf}
 
 before : (front behind : List ℕ) (m : ℕ) → 256 * m + 256 ≤ length front → placesOf (front ++ behind) m ≡ placesOf front m
 before front behind m h =
@@ -22,35 +23,6 @@ row-kept : (lists left : List ℕ) (at m : ℕ) → 256 * m + 256 ≤ at → at 
     → placesOf left m ≡ placesOf lists m
 row-kept lists left at m h b s e =
     sym (front left at m h (omega arith)) ∙ ap (λ (l : List ℕ). placesOf l m) e ∙ front lists at m h b
-
--- a part of the places is written: row stands in its place
-module _ (lists row : List ℕ) (at size count : ℕ) (inside : at ≤ length lists) (short : count ≤ length row) where
-  abbrev pub put : List ℕ
-  put = take at lists ++ (row ++ drop size (drop at lists))
-
-  pub front-kept : take at put ≡ take at lists
-  front-kept = take-at (take at lists) _ at (length-take-le at lists inside)
-
-  pub row-written : length row ≤ 256 → take count (take 256 (drop at put)) ≡ take count row
-  row-written d =
-      ap (λ (l : List ℕ). take count (take 256 l)) (drop-at (take at lists) _ at (length-take-le at lists inside))
-      ∙ take-take count 256 _ (omega arith)
-      ∙ take-append-le count row _ short
-
-  beyond : (l : List ℕ) → drop (at + count) (take at lists ++ l) ≡ drop count l
-  beyond l =
-      sym (drop-drop count at (take at lists ++ l))
-      ∙ ap (λ (k : List ℕ). drop count k) (drop-at (take at lists) l at (length-take-le at lists inside))
-
-  pub behind-kept : length row ≡ length (take size (drop at lists)) → drop count row ≡ drop count (take size (drop at lists))
-      → drop (at + count) put ≡ drop (at + count) lists
-  behind-kept same h =
-      beyond _
-      ∙ drop-append-le count row _ short
-      ∙ ap (λ (l : List ℕ). l ++ drop size (drop at lists)) h
-      ∙ sym (drop-append-le count (take size (drop at lists)) _ (omega arith))
-      ∙ ap (λ (l : List ℕ). drop count l) (take-append-drop size (drop at lists))
-      ∙ drop-drop count at lists
 
 pub lists-kept : (counts counts' lists lists' : List ℕ) (n : ℕ) → ((m : ℕ) → m < n → getD counts' m 0 ≡ getD counts m 0)
     → ((m : ℕ) → m < n → placesOf lists' m ≡ placesOf lists m)

@@ -1,54 +1,22 @@
 -- One turn of a run, as a trace.
-use Prim.Native.Nat.{ℕ, zero, suc, _+_, _*_, _<_, _≤_, min}
+use Prim.Native.Nat.{ℕ, _+_, _*_, _<_, _≤_}
 use mathlib.Core.Path.{_≡_, refl, sym, _∙_, ap}
 use mathlib.Core.List.{List, [], _∷_, _++_}
 use native.Mathlib.Omega.{arith}
 use native.Mathlib.Numerals.{add-one}
-use lib.ListN.{length, getD, take, drop, set, length-drop}
-use lib.Seq.{length-take-le, take-suc-set, drop-set-lt, getD-set-same, getD-set-other}
-use Rattle.model.specs.Requests.{Request, view, Turn}
-use Rattle.model.specs.Calls.{Left}
+use lib.ListN.{length, take, drop, set}
+use lib.Seq.{take-suc-set, drop-set-lt, getD-set-same, getD-set-other}
+use Rattle.model.specs.Requests.{Request, Turn}
 use Rattle.model.specs.Machine.{requests}
 use Rattle.model.specs.Traces.{Trace, turns, lastBytes, Happens}
 use Rattle.model.proofs.Tracing.{every-trace, every-trace-from}
 use Rattle.model.proofs.Leaving.{drop-more}
-use Rattle.kinds.specs.Kinds.{requestOf}
-use Rattle.kinds.specs.declared.Request.{Request as Asked}
-use Rattle.traces.specs.Cite.{CallOf, CallMade}
-use Rattle.traces.specs.Ran.{decoded, requestAt, asked, placesOf, listsOf, answersOf, writtenOf, Turned, Kept, Ran}
-use Rattle.traces.proofs.Made.{made}
-use Rattle.traces.proofs.Sound.{sound}
+use Rattle.claims.specs.Cite.{CallMade}
+use Rattle.encoded.specs.Encoded.{requestAt, placesOf, Turned}
+use Rattle.traces.specs.Ran.{asked, listsOf, answersOf, writtenOf, Kept, Ran}
+use Rattle.claims.proofs.Sound.{sound}
 use Rattle.traces.proofs.Refusing.{all-refused}
-use Rattle.traces.proofs.Rows.{row-written, front-kept, behind-kept, lists-written, place-kept}
-
--- any other number is a view
-pub decoded-view : (x y z n : ℕ) → (n ≡ 0 → ⊥) → (n ≡ 1 → ⊥) → (n ≡ 2 → ⊥) → (n ≡ 3 → ⊥) → decoded n x y z ≡ view x y z
-decoded-view x y z zero p q r s = absurd (p refl)
-decoded-view x y z (suc zero) p q r s = absurd (q refl)
-decoded-view x y z (suc (suc zero)) p q r s = absurd (r refl)
-decoded-view x y z (suc (suc (suc zero))) p q r s = absurd (s refl)
-decoded-view x y z (suc (suc (suc (suc n)))) p q r s = refl
-
--- the call of request n, on its part of the places
-pub turned : (b net encoded : List ℕ) (n : ℕ) (lists : List ℕ) (k count : ℕ) (after row : List ℕ) (size x y z : ℕ) (q : Asked)
-    → x ≡ getD encoded (4 * n + 1) 0
-    → y ≡ getD encoded (4 * n + 2) 0
-    → z ≡ getD encoded (4 * n + 3) 0
-    → requestOf q (min z 256) ≡ decoded (getD encoded (4 * n) 0) x y z
-    → 256 * n + 256 ≤ length lists
-    → size ≡ min z 256
-    → length row ≡ length (take size (drop (256 * n) lists))
-    → Left b net (requestOf q (length (take size (drop (256 * n) lists)))) (take size (drop (256 * n) lists)) k count row after
-    → Turned b net encoded n lists k count (take (256 * n) lists ++ (row ++ drop size (drop (256 * n) lists))) after
-turned b net encoded n lists k count after row size x y z q ex ey ez eq room few same l =
-    let out : List ℕ = take size (drop (256 * n) lists) in
-    let inside : 256 * n ≤ length lists = omega arith in
-    let lent : length out ≡ min z 256 = length-take-le size (drop (256 * n) lists) (omega (arith, length-drop (256 * n) lists)) ∙ few in
-    let c : CallOf b net (requestAt encoded n) k (take count row) after = rw (← ex, ← ey, ← ez, ← eq, ← lent) (made b net out q k count row after l) in (
-      rw (row-written lists row (256 * n) size count inside (l .front .within) (omega arith)) c,
-      front-kept lists row (256 * n) size count inside (l .front .within),
-      behind-kept lists row (256 * n) size count inside (l .front .within) same (l .front .behind),
-    )
+use Rattle.traces.proofs.Rows.{lists-written, place-kept}
 
 happens-then : (b net : List ℕ) (ts : Trace) (t : Turn) (after : List ℕ) → Happens CallMade b net ts → CallMade b (lastBytes net ts) t after
     → Happens CallMade b net (ts ++ (t, after) ∷ [])

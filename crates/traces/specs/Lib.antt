@@ -1,2 +1,1 @@
-pub mod Cite
 pub mod Ran

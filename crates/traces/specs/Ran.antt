@@ -1,4 +1,4 @@
--- A run over encoded requests: four numbers each, the kind and three more.
+-- A run over encoded requests.
 use Prim.Native.Nat.{ℕ, zero, suc, _+_, _*_, _/_, _<_, _≤_, min}
 use mathlib.Core.Path.{_≡_}
 use mathlib.Core.List.{List, [], _∷_, _++_}
@@ -6,33 +6,18 @@ use lib.ListN.{length, getD, take, drop}
 use Rattle.model.specs.Answers.{Answers}
 use Rattle.model.specs.SchemeBytes.{schemeOf, Accepted}
 use Rattle.model.specs.Network.{fresh, held, Valid}
-use Rattle.model.specs.Requests.{Request, event, set-policy, find, list, view, Turn}
+use Rattle.model.specs.Requests.{Request, Turn}
 use Rattle.model.specs.Calls.{Fresh}
 use Rattle.model.specs.Machine.{requests}
 use Rattle.model.specs.Traces.{Trace, turns, lastBytes, Matches, Happens}
-use Rattle.checks.specs.Opened.{openNeeds}
-use Rattle.traces.specs.Cite.{CallOf, CallMade}
-
--- the kinds: 0 event, 1 set, 2 find, 3 list, which is lent z of its 256 places, all where z is more; any other number view
-abbrev pub decoded : ℕ → ℕ → ℕ → ℕ → Request
-decoded zero x y z = event x y z
-decoded (suc zero) x y z = set-policy x y z
-decoded (suc (suc zero)) x y z = find x y
-decoded (suc (suc (suc zero))) x y z = list x y (min z 256)
-decoded (suc (suc (suc (suc k)))) x y z = view x y z
-
--- request n
-abbrev pub requestAt : List ℕ → ℕ → Request
-requestAt l n = decoded (getD l (4 * n) 0) (getD l (4 * n + 1) 0) (getD l (4 * n + 2) 0) (getD l (4 * n + 3) 0)
+use Rattle.opening.specs.Opened.{openNeeds}
+use Rattle.claims.specs.Cite.{CallMade}
+use Rattle.encoded.specs.Encoded.{requestAt, placesOf}
 
 -- the first n requests
 unfoldable pub asked : List ℕ → ℕ → List Request
 asked l zero = []
 asked l (suc n) = asked l n ++ requestAt l n ∷ []
-
--- the nth 256 places
-abbrev pub placesOf : List ℕ → ℕ → List ℕ
-placesOf lists n = take 256 (drop (256 * n) lists)
 
 -- the first n lists: each stands at the front of its places, as many as counted
 unfoldable pub listsOf : List ℕ → List ℕ → ℕ → List (List ℕ)
@@ -46,13 +31,6 @@ answersOf (t ∷ ts) = t .answer ∷ answersOf ts
 abbrev pub writtenOf : List Turn → List (List ℕ)
 writtenOf [] = []
 writtenOf (t ∷ ts) = t .written ∷ writtenOf ts
-
--- request n: its list stands at the front of the nth places, and all other places are as they were
-abbrev pub Turned : List ℕ → List ℕ → List ℕ → ℕ → List ℕ → ℕ → ℕ → List ℕ → List ℕ → Type 0
-Turned b net encoded n lists answer count left after =
-    CallOf b net (requestAt encoded n) answer (take count (placesOf left n)) after
-    × (take (256 * n) left ≡ take (256 * n) lists)
-    × (drop (256 * n + count) left ≡ drop (256 * n + count) lists)
 
 -- for how many requests there is room
 abbrev pub fitting : List ℕ → List ℕ → List ℕ → List ℕ → ℕ

@@ -1,9 +1,11 @@
 -- `cases::read_part` is safe, and what it reads is within the buffer.
 use native.Mathlib.Omega.{arith}
-use mathlib.Core.Path.{sym}
+use mathlib.Core.Path.{sym, _∙_}
+use denote.Ref.{now}
 use lib.ListN.{length-append}
 use lib.Seq.{length-take-le}
 use borrow.Author.Needs.{needs}
+use Rattle.cases.proofs.Reading.{kept-behind}
 use Rattle.cases.proofs.read_part.Statement.{statement}
 use Rattle.cases.proofs.read_part.Tie as tie
 
@@ -35,7 +37,13 @@ same-length : tie.Need-same-length
 same-length c = search needs
 
 returns-3 : tie.Need-returns-3
-returns-3 c = simp length-append (omega (arith, c .before .before .read-full .ensures .0))
+returns-3 c =
+    let read = c .before .before .read-full in
+    let size = c .before .before .before .before .before .before .size .given .0 .0 in
+    let buffer = now (c .before .before .before .before .before .before .before .before .before .before .args .buffer) in (
+      simp length-append (omega (arith, read .ensures .0)),
+      kept-behind (read .result) size (read .last .1 .0) buffer (read .ensures .0) (read .kept .1 .0 ∙ length-take-le size buffer (search needs)),
+    )
 
 pub read-part-spec : {M : Type 1} → statement M
 read-part-spec =

@@ -42,14 +42,14 @@ returns-2 c = search needs
 slice-reshare-prefix-print-case : tie.Need-slice-reshare-prefix-print-case
 slice-reshare-prefix-print-case c =
     part-within (c .before .before .before .before .before .before .before .before .s .given .1)
-    (c .before .before .before .before .before .before .before .before .before .before .before .before .read-part .ensures)
+    (c .before .before .before .before .before .before .before .before .before .before .before .before .read-part .ensures .0)
 
 slice-aggregate-print-case : tie.Need-slice-aggregate-print-case
 slice-aggregate-print-case c = sym (length-take-le _ _ (slice-reshare-prefix-print-case (c .before)))
 
 slice-relend-prefix-print-case : tie.Need-slice-relend-prefix-print-case
 slice-relend-prefix-print-case c =
-    part-within (c .before .before .n .given .1) (c .before .before .before .before .before .before .read-part2 .ensures)
+    part-within (c .before .before .n .given .1) (c .before .before .before .before .before .before .read-part2 .ensures .0)
 
 slice-aggregate-print-case-2 : tie.Need-slice-aggregate-print-case-2
 slice-aggregate-print-case-2 c = sym (length-take-le _ _ (slice-relend-prefix-print-case (c .before)))

@@ -58,7 +58,7 @@ returns c =
     let s = l .before .before .before .before .before .before .before .before in
     let e = s .pre .0 .counts .members in
     let y = c .before .before .before .layer .ensures in
-    (y .spread .size, layers-ended (l .loop .inv .3) y (omega arith) (l .loop .inv .1) (omega arith) (s .args .limit) (inside (s .args .scheme .now) (s .args .network .now)) (not-true _ (c .if1 .taken)))
+    (y .spread .size, layers-ended (l .loop .inv .3) y (omega arith) (l .loop .inv .1) (omega arith) (s .args .limit) (inside (s .args .scheme .now) (s .args .network .now)) (omega arith) (not-true _ (c .if1 .taken)))
 
 add-mark : tie.Need-add-mark Inv-loop μ-loop
 add-mark c = omega arith
@@ -81,7 +81,7 @@ returns-2 : tie.Need-returns-2 Inv-loop μ-loop
 returns-2 c =
     let l = c .before in
     let s = l .before .before .before .before .before .before .before .before in
-    (l .loop .inv .0, layers-distances (s .args .limit) (l .loop .inv .3) (inside (s .args .scheme .now) (s .args .network .now)) (λ j b o. omega arith))
+    (l .loop .inv .0, layers-distances (s .args .limit) (l .loop .inv .3) (inside (s .args .scheme .now) (s .args .network .now)) (omega arith) (λ j b o. omega arith))
 
 pub fill-spec : {M : Type 1} → statement M
 fill-spec =

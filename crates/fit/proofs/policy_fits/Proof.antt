@@ -1,7 +1,7 @@
 use native.Mathlib.Omega.{arith}
 use mathlib.Core.Logic.{inl, inr}
 use Rattle.model.proofs.Deciding.{decided, says, iff}
-use Rattle.tables.proofs.Rules.{by-kind, by-state}
+use Rattle.rules.proofs.Rules.{by-kind, by-state}
 use borrow.Author.Needs.{needs}
 use Rattle.fit.proofs.policy_fits.Statement.{statement}
 use Rattle.fit.proofs.policy_fits.Tie as tie

@@ -41,14 +41,14 @@ returns-2 c = search needs
 
 slice-reshare-prefix-print : tie.Need-slice-reshare-prefix-print
 slice-reshare-prefix-print c =
-    part-within (c .before .before .before .before .before .before .before .before .s .given .1) (c .before .before .before .before .before .before .before .before .before .before .before .before .read-part .ensures)
+    part-within (c .before .before .before .before .before .before .before .before .s .given .1) (c .before .before .before .before .before .before .before .before .before .before .before .before .read-part .ensures .0)
 
 slice-aggregate-print : tie.Need-slice-aggregate-print
 slice-aggregate-print c = sym (length-take-le _ _ (slice-reshare-prefix-print (c .before)))
 
 slice-reshare-prefix-print-2 : tie.Need-slice-reshare-prefix-print-2
 slice-reshare-prefix-print-2 c =
-    part-within (c .before .before .l .given .1) (c .before .before .before .before .before .before .read-part2 .ensures)
+    part-within (c .before .before .l .given .1) (c .before .before .before .before .before .before .read-part2 .ensures .0)
 
 slice-aggregate-print-2 : tie.Need-slice-aggregate-print-2
 slice-aggregate-print-2 c = sym (length-take-le _ _ (slice-reshare-prefix-print-2 (c .before)))

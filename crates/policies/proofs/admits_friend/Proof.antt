@@ -1,10 +1,10 @@
 use native.Mathlib.Omega.{arith}
 use denote.Ref.{now}
 use Rattle.model.proofs.Deciding.{decided, says, is-so}
-use Rattle.tables.proofs.Rules.{within-positive}
+use Rattle.rules.proofs.Rules.{within-positive}
 use Rattle.network.proofs.Reading.{ready-read}
 use Rattle.relation.proofs.Relating.{related-less}
-use Rattle.policies.proofs.Granting.{bit-says}
+use Rattle.rule_admission.proofs.Granting.{bit-says}
 use borrow.Author.Needs.{needs}
 use Rattle.policies.proofs.admits_friend.Statement.{statement}
 use Rattle.policies.proofs.admits_friend.Tie as tie

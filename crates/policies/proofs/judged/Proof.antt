@@ -5,8 +5,8 @@ use borrow.Author.Needs.{needs}
 use native.Mathlib.Omega.{arith}
 use Rattle.model.proofs.Sets.{Added, added, left-out}
 use Rattle.network.proofs.Reading.{ready-read, ready-range}
-use Rattle.policies.specs.Admission.{Admitted}
-use Rattle.policies.proofs.Granting.{reads-one, lower-all, admitted-none, admitted-more}
+use Rattle.rule_admission.specs.Admission.{Admitted}
+use Rattle.policies.proofs.Admitting.{reads-one, lower-all, admitted-none, admitted-more}
 use Rattle.policies.proofs.judged.Statement.{statement}
 use Rattle.policies.proofs.judged.Tie as tie
 
@@ -25,8 +25,8 @@ loop-holds c =
 policy-requires : tie.Need-policy-requires Inv-loop μ-loop
 policy-requires c κs = (ready-read (c .before .before .before .before .pre .0), omega arith)
 
-rule-admits-requires : tie.Need-rule-admits-requires Inv-loop μ-loop
-rule-admits-requires c κs =
+admits-requires : tie.Need-admits-requires Inv-loop μ-loop
+admits-requires c κs =
     let s = c .before .before .before .before .before in
     let i = c .before .before .loop in (
       s .pre .0,
@@ -41,7 +41,7 @@ rule-admits-requires c κs =
     )
 
 -- a policy's number is below 32
-small : (c : tie.After-rule-admits Inv-loop μ-loop) → c .before .before .before .loop .p < 32
+small : (c : tie.After-admits Inv-loop μ-loop) → c .before .before .before .loop .p < 32
 small c =
     let s = c .before .before .before .before .before .before in
     omega (arith, ready-range (s .pre .0), c .before .before .loop-test .taken, s .pre .6)
@@ -62,12 +62,12 @@ loop-again : tie.Need-loop-again Inv-loop μ-loop
 loop-again c =
     let l = c .before .before .before .before .loop in
     let i = l .inv .0 in
-    let d : Added (l .set) (l .p) (c .before .rule-admits .result) (c .if1 .set) =
+    let d : Added (l .set) (l .p) (c .before .admits .result) (c .if1 .set) =
     ⊎-elim
     (λ w. rw (w .0 .taken, w .1) (added 32 (l .set) (l .p) (small (c .before)) (i .none-above)))
     (λ w. rw (w .0 .left, w .1) (left-out (l .set) (l .p) (i .none-above)))
     (c .if1 .came) in
-    (admitted-more i d (rw (c .before .before .policy .ensures .policy) (c .before .rule-admits .ensures)), omega arith, omega arith)
+    (admitted-more (omega arith) i d (rw (c .before .before .policy .ensures .policy) (c .before .admits .ensures)), omega arith, omega arith)
 
 returns : tie.Need-returns Inv-loop μ-loop
 returns c =
@@ -82,7 +82,7 @@ judged-spec =
     μ-loop
     loop-holds
     policy-requires
-    rule-admits-requires
+    admits-requires
     cast-set
     shl-set
     add-p

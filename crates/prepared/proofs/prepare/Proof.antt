@@ -1,13 +1,12 @@
-use mathlib.Core.Path.{_≡_, sym, _∙_}
+use mathlib.Core.Path.{refl, sym, _∙_}
 use mathlib.Core.Logic.{⊎-elim}
 use native.Mathlib.Omega.{arith}
 use denote.Ref.{now}
-use lib.ListN.{length}
 use Rattle.model.specs.SchemeBytes.{P}
-use Rattle.model.proofs.Deciding.{said-no}
+use Rattle.model.proofs.Deciding.{said-yes, said-no}
 use Rattle.network.proofs.Reading.{ready-read, ready-range}
 use Rattle.prepared.specs.Reading.{SomeOfKind}
-use Rattle.prepared.proofs.Preparing.{Near, near-filled, near-unread}
+use Rattle.prepared.proofs.Preparing.{Measured, measured-read, measured-unread, all-filled, own-written, none-written}
 use Rattle.prepared.proofs.Reaching.{some-more}
 use borrow.Author.Needs.{needs}
 use Rattle.prepared.proofs.prepare.Statement.{statement}
@@ -20,17 +19,19 @@ fill-requires : tie.Need-fill-requires
 fill-requires c κs = search needs
 
 -- the distances after the first branch
-near : (c : tie.Joined1)
+measured : (c : tie.Joined1)
     → let a = c .before .before .before .before .before .before .args in
-    (length (c .if1 .distances) ≡ 256) × Near (now (a .scheme)) (now (a .network)) (a .v) (c .if1 .distances)
-near c =
+    Measured (now (a .scheme)) (now (a .network)) (a .v) (now (a .distances)) (c .if1 .distances)
+measured c =
     let s = c .before .before .before .before .before .before in
+    let b = now (s .args .scheme) in
     let net = now (s .args .network) in
+    let d = now (s .args .distances) in
     let far = c .before .farthest .ensures in
     let e = s .pre .0 .counts .policies in
     ⊎-elim
-    (λ w. (rw (w .5) (w .2 .ensures .0), near-filled far e net (s .args .v) (c .if1 .distances) (rw (w .5) (w .2 .ensures .1))))
-    (λ w. (rw (w .1) (s .pre .2), near-unread far e net (s .args .v) (c .if1 .distances) (w .0 .left)))
+    (λ w. measured-read b net (s .args .v) _ _ d (c .if1 .distances) far e (w .0 .taken) (rw (w .5) (w .2 .ensures .0)) (rw (w .5) (w .2 .ensures .1)))
+    (λ w. measured-unread b net (s .args .v) _ _ d (c .if1 .distances) far e (w .0 .left) (s .pre .2) (w .1))
     (c .if1 .came)
 
 some-of-requires : tie.Need-some-of-requires
@@ -40,7 +41,7 @@ fill-rows-requires : tie.Need-fill-rows-requires
 fill-rows-requires c κs = search needs
 
 same-length : tie.Need-same-length
-same-length c = near (c .before .before .before .before .before .before) .0 ∙ sym (c .before .before .before .before .before .before .before .before .before .before .before .before .pre .2)
+same-length c = measured (c .before .before .before .before .before .before) .long ∙ sym (c .before .before .before .before .before .before .before .before .before .before .before .before .pre .2)
 
 same-length-2 : tie.Need-same-length-2
 same-length-2 c = search needs
@@ -48,9 +49,9 @@ same-length-2 c = search needs
 returns : tie.Need-returns
 returns c =
     let s = c .before .before .before .before .before .before .before .before .before .before .before .before in
-    let (l, n) = near (c .before .before .before .before .before .before) in
-    let (k, r) = c .before .before .fill-rows .ensures in
-    record { distances-long = l; rows-long = k; near = n; own-row = λ some. r (s .args .v) (omega (arith, s .pre .0 .counts)); all-rows = λ some. r }
+    let some = said-yes (c .before .before .before .before .if2 .taken) (c .before .before .before .before .before .some-of .ensures) in
+    all-filled (measured (c .before .before .before .before .before .before)) (s .pre .3) (omega (arith, s .pre .0 .counts))
+    (some-more _ _ 0 _ _ (omega (arith, s .pre .0 .counts .policies)) some) (c .before .before .fill-rows .ensures)
 
 some-of-requires-2 : tie.Need-some-of-requires-2
 some-of-requires-2 c κs = (ready-read (c .before .before .before .before .before .before .before .before .pre .0), omega arith)
@@ -62,7 +63,7 @@ put-row-requires : tie.Need-put-row-requires
 put-row-requires c κs = let s = c .before .before .before .before .before .before .before .before .before .before .before .before in (s .pre .3, omega (arith, ready-range (s .pre .0)))
 
 same-length-3 : tie.Need-same-length-3
-same-length-3 c = near (c .before .before .before .before .before .before .before .before .before) .0 ∙ sym (c .before .before .before .before .before .before .before .before .before .before .before .before .before .before .before .pre .2)
+same-length-3 c = measured (c .before .before .before .before .before .before .before .before .before) .long ∙ sym (c .before .before .before .before .before .before .before .before .before .before .before .before .before .before .before .pre .2)
 
 same-length-4 : tie.Need-same-length-4
 same-length-4 c = search needs
@@ -76,30 +77,18 @@ no-clique c some =
 returns-2 : tie.Need-returns-2
 returns-2 c =
     let s = c .before .before .before .before .before .before .before .before .before .before .before .before .before .before .before in
-    let (l, n) = near (c .before .before .before .before .before .before .before .before .before) in
-    let put = c .before .before .put-row .ensures in
-    record {
-      distances-long = l;
-      rows-long = put .long ∙ s .pre .3;
-      near = n;
-      own-row = λ some. rw (put .here) (c .before .before .before .before .friend-row .ensures);
-      all-rows = λ some. absurd (no-clique (c .before .before .before .before .before .before .before) some);
-    }
+    let some = said-yes (c .before .before .before .before .before .if3 .taken) (c .before .before .before .before .before .before .some-of2 .ensures) in
+    own-written (measured (c .before .before .before .before .before .before .before .before .before)) (s .pre .3) (no-clique (c .before .before .before .before .before .before .before))
+    (some-more _ _ 0 _ _ (omega (arith, s .pre .0 .counts .policies)) some) (c .before .before .before .before .friend-row .ensures) (c .before .before .put-row .ensures)
 
 same-length-5 : tie.Need-same-length-5
-same-length-5 c = near (c .before .before .before .before) .0 ∙ sym (c .before .before .before .before .before .before .before .before .before .before .pre .2)
+same-length-5 c = measured (c .before .before .before .before) .long ∙ sym (c .before .before .before .before .before .before .before .before .before .before .pre .2)
 
 returns-3 : tie.Need-returns-3
 returns-3 c =
     let s = c .before .before .before .before .before .before .before .before .before .before in
-    let (l, n) = near (c .before .before .before .before) in
-    record {
-      distances-long = l;
-      rows-long = s .pre .3;
-      near = n;
-      own-row = λ some. absurd (said-no (c .if3 .left) (c .before .some-of2 .ensures) (some-more _ _ 0 _ _ (omega (arith, s .pre .0 .counts .policies)) some));
-      all-rows = λ some. absurd (no-clique (c .before .before) some);
-    }
+    none-written (measured (c .before .before .before .before)) (s .pre .3) (no-clique (c .before .before))
+    (λ some. said-no (c .if3 .left) (c .before .some-of2 .ensures) (some-more _ _ 0 _ _ (omega (arith, s .pre .0 .counts .policies)) some)) refl
 
 pub prepare-spec : {M : Type 1} → statement M
 prepare-spec =

@@ -1,9 +1,7 @@
-use Prim.Native.Nat.{_≤_}
 use native.Mathlib.Omega.{arith}
 use denote.Ref.{now}
-use Rattle.network.specs.Ready.{graphOf}
 use Rattle.network.proofs.Reading.{ready-range}
-use Rattle.relation.proofs.Undirected.{network-undirected}
+use Rattle.relation.proofs.Relating.{sized-by}
 use borrow.Author.Needs.{needs}
 use Rattle.relation.proofs.clique_of_friends.Statement.{statement}
 use Rattle.relation.proofs.clique_of_friends.Tie as tie
@@ -36,8 +34,7 @@ returns-2 c =
     let s = c .before .before .before .before .before .before .before .before .before .before in
     let b = now (s .args .scheme) in
     let net = now (s .args .network) in
-    let few : graphOf b net .members ≤ 256 = omega (arith, ready-range (s .pre .0), s .pre .0 .counts) in
-    c .largest .ensures (graphOf b net) (c .before .before .before .fill-rows .ensures .1) (network-undirected b net) few (omega (arith, s .pre .0 .counts)) (omega (arith, s .pre .0 .counts))
+    sized-by {b = b} {net = net} (s .pre .0) (c .before .before .before .fill-rows .ensures .each) (c .largest .ensures) (s .pre .1) (s .pre .2)
 
 pub clique-of-friends-spec : {M : Type 1} → statement M
 clique-of-friends-spec =

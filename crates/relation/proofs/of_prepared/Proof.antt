@@ -31,7 +31,7 @@ returns c =
     record {
       near = λ k (q, f, l, e).
           let (limit, h, d) = p .near q k l e in
-          d (s .args .u) k (omega (arith, s .pre .0 .counts .members)) h;
+          d .least (s .args .u) k (omega (arith, s .pre .0 .counts .members)) h;
       acquainted = c .before .acquaintance .ensures;
       sized = λ asked. sized-by (s .pre .0) (p .all-rows (s .pre .5 asked)) (c .clique-size .ensures asked) (s .pre .2) (s .pre .3);
     }

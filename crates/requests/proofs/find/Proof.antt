@@ -2,8 +2,8 @@ use mathlib.Core.Path.{refl}
 use mathlib.Core.Logic.{inl, inr}
 use Rattle.model.proofs.Deciding.{refused, passed}
 use Rattle.scheme.specs.declared.Reading.the-variants.{Accepted}
-use Rattle.checks.specs.Opened.{Opened}
-use Rattle.checks.proofs.CallAnswers.{open-accepted, open-refused}
+use Rattle.opening.specs.Opened.{Opened}
+use Rattle.opening.proofs.CallAnswers.{open-accepted, open-refused}
 use Rattle.requests.proofs.FindAnswers.{find-refused, find-judged}
 use borrow.Author.Needs.{needs}
 use Rattle.requests.proofs.find.Statement.{statement}

@@ -1,7 +1,7 @@
 use native.Mathlib.Omega.{arith}
 use Rattle.scheme.specs.declared.Reading.the-variants.{Accepted}
-use Rattle.checks.specs.Opened.{Opened}
-use Rattle.checks.proofs.CallAnswers.{open-accepted, open-refused}
+use Rattle.opening.specs.Opened.{Opened}
+use Rattle.opening.proofs.CallAnswers.{open-accepted, open-refused}
 use Rattle.requests.proofs.ListAnswers.{list-refused, list-13, list-judged, list-0}
 use borrow.Author.Needs.{needs}
 use Rattle.requests.proofs.list.Statement.{statement}
@@ -21,7 +21,7 @@ accepted c = open-accepted _ _ _ _ (c .before .reading .given .1) (after-open c 
 abbrev after-known-told : tie.Else1 → tie.After-known-told
 after-known-told c = c .before .before
 
-abbrev else1 : tie.After-write-friends-arg → tie.Else1
+abbrev else1 : tie.After-write-arg → tie.Else1
 else1 c = c .before .before .before
 
 open-requires : tie.Need-open-requires
@@ -50,8 +50,8 @@ judge-requires c κs =
 returns-3 : tie.Need-returns-3
 returns-3 c = list-judged (accepted (after-known-told (c .before .before))) (omega arith) (c .before .before .if1 .left) (c .before .judge .ensures)
 
-write-friends-requires : tie.Need-write-friends-requires
-write-friends-requires c κs =
+write-requires : tie.Need-write-requires
+write-requires c κs =
     let (h, x, y) = accepted (after-known-told (else1 c)) in
     (h, y, else1 c .if1 .left)
 
@@ -63,7 +63,7 @@ returns-4 c =
     let w = c .before .before in
     let d = else1 (w .before) in
     let j = w .before .before in
-    list-0 (accepted (after-known-told d)) (j .if2 .left) (d .if1 .left) (j .before .judge .ensures) (w .write-friends .ensures)
+    list-0 (accepted (after-known-told d)) (j .if2 .left) (d .if1 .left) (j .before .judge .ensures) (w .write .ensures)
 
 pub list-spec : {M : Type 1} → statement M
 list-spec =
@@ -77,6 +77,6 @@ list-spec =
     returns-2
     judge-requires
     returns-3
-    write-friends-requires
+    write-requires
     same-length
     returns-4)

@@ -1,8 +1,8 @@
 use native.Mathlib.Omega.{arith}
 use Rattle.network.proofs.Reading.{ready-range}
 use Rattle.scheme.specs.declared.Reading.the-variants.{Accepted}
-use Rattle.checks.specs.Opened.{Opened}
-use Rattle.checks.proofs.CallAnswers.{open-accepted, open-refused}
+use Rattle.opening.specs.Opened.{Opened}
+use Rattle.opening.proofs.CallAnswers.{open-accepted, open-refused}
 use Rattle.requests.proofs.ViewAnswers.{view-refused, view-7, view-judged}
 use borrow.Author.Needs.{needs}
 use Rattle.requests.proofs.view.Statement.{statement}

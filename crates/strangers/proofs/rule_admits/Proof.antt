@@ -1,4 +1,4 @@
-use Prim.Native.Nat.{ℕ, _%_}
+use Prim.Native.Nat.{ℕ}
 use mathlib.Core.Path.{_≡_, refl}
 use mathlib.Core.Bool.{Bool, true, false}
 use denote.Ref.{now}
@@ -8,7 +8,7 @@ use Rattle.model.specs.Decides.{Decides}
 use Rattle.model.specs.Policies.{OnSide, Admits}
 use Rattle.model.specs.SchemeBytes.{sideOf, strangers, schemeOf}
 use Rattle.model.proofs.Deciding.{decided}
-use Rattle.tables.specs.Rules.{policyOfRule}
+use Rattle.rules.specs.Rules.{policyOfRule}
 use Rattle.strangers.proofs.Strangers.{answer, offered-is, rule-says}
 use borrow.Author.Needs.{needs}
 use Rattle.strangers.proofs.rule_admits.Statement.{statement}
@@ -35,20 +35,26 @@ enum-told-6 c = search needs
 enum-known-rule : tie.Need-enum-known-rule
 enum-known-rule c = search needs
 
+cast-offered : tie.Need-cast-offered
+cast-offered c = search needs
+
+offered-requires : tie.Need-offered-requires
+offered-requires c κs = search needs
+
 enum-known-rule-2 : tie.Need-enum-known-rule-2
 enum-known-rule-2 c = search needs
 
 wide-requires : tie.Need-wide-requires
 wide-requires c κs = search needs
 
-offered-requires : tie.Need-offered-requires
-offered-requires c κs = search needs
+offered-requires-2 : tie.Need-offered-requires-2
+offered-requires-2 c κs = search needs
 
 wide-requires-2 : tie.Need-wide-requires-2
 wide-requires-2 c κs = search needs
 
-offered-requires-2 : tie.Need-offered-requires-2
-offered-requires-2 c κs = search needs
+offered-requires-3 : tie.Need-offered-requires-3
+offered-requires-3 c κs = search needs
 
 enum-known-rule-3 : tie.Need-enum-known-rule-3
 enum-known-rule-3 c = search needs
@@ -56,14 +62,14 @@ enum-known-rule-3 c = search needs
 wide-requires-3 : tie.Need-wide-requires-3
 wide-requires-3 c κs = search needs
 
-offered-requires-3 : tie.Need-offered-requires-3
-offered-requires-3 c κs = search needs
+offered-requires-4 : tie.Need-offered-requires-4
+offered-requires-4 c κs = search needs
 
 wide-requires-4 : tie.Need-wide-requires-4
 wide-requires-4 c κs = search needs
 
-offered-requires-4 : tie.Need-offered-requires-4
-offered-requires-4 c κs = search needs
+offered-requires-5 : tie.Need-offered-requires-5
+offered-requires-5 c κs = search needs
 
 -- the result is right where it is the answer for the rule
 told : (c : tie.Start) (r : Bool) → answer (c .args .side) (c .args .set) (c .args .rule) ≡ r
@@ -93,51 +99,51 @@ returns-6 c = told (c .before .before .before) false (rw (c .enum-told6 .given .
 
 returns-7 : tie.Need-returns-7
 returns-7 c =
-    let s = c .before .before .before .before .before .before in
-    let g = c .before .before .before .rule .given in
-    told s (eqb (g .0 .1 .0) 0) (rw (g .1, c .before .if1 .taken, c .if2 .taken))
+    let s = c .before .before .before .before .before .before .before in
+    let g = c .before .before .before .before .rule .given in
+    told s (eqb (g .0 .1 .0) 0) (rw (g .1, ← c .before .before .offered .ensures, c .before .if1 .taken, c .if2 .taken))
 
 returns-8 : tie.Need-returns-8
 returns-8 c =
-    let s = c .before .before .before .before .before .before in
-    let g = c .before .before .before .rule .given in
-    told s (eqb (g .0 .1 .0) (s .args .side)) (rw (g .1, c .before .if1 .taken, ne-eqb (g .0 .1 .0) 0 (c .if2 .left)))
+    let s = c .before .before .before .before .before .before .before in
+    let g = c .before .before .before .before .rule .given in
+    told s (eqb (g .0 .1 .0) (s .args .side)) (rw (g .1, ← c .before .before .offered .ensures, c .before .if1 .taken, ne-eqb (g .0 .1 .0) 0 (c .if2 .left)))
 
 returns-9 : tie.Need-returns-9
 returns-9 c =
-    let s = c .before .before .before .before .before in
-    let g = c .before .before .rule .given in
-    told s (eqb (g .0 .0 % 2) 1) (rw (g .1, ne-eqb (g .0 .0 % 2) 1 (c .if1 .left)))
+    let s = c .before .before .before .before .before .before in
+    let g = c .before .before .before .rule .given in
+    told s (c .before .offered .result) (rw (g .1, ← c .before .offered .ensures, c .if1 .left))
 
 returns-10 : tie.Need-returns-10
 returns-10 c =
     let s = c .before .before .before .before .before .before .before .before .before in
     let g = c .before .before .before .before .before .before .rule2 .given in
-    let l = offered-is (s .args .set) (c .before .before .before .before .wide .ensures .0) (c .before .before .before .offered .ensures) (c .before .before .if3 .taken) in
-    let r = offered-is (s .args .set) (c .before .wide2 .ensures .0) (c .offered2 .ensures) refl in
-    told s (c .offered2 .result) (rw (g .1, l, r))
+    let l = offered-is (s .args .set) (c .before .before .before .before .wide .ensures .0) (c .before .before .before .offered2 .ensures) (c .before .before .if3 .taken) in
+    let r = offered-is (s .args .set) (c .before .wide2 .ensures .0) (c .offered3 .ensures) refl in
+    told s (c .offered3 .result) (rw (g .1, l, r))
 
 returns-11 : tie.Need-returns-11
 returns-11 c =
     let s = c .before .before .before .before .before .before .before in
     let g = c .before .before .before .before .rule2 .given in
-    let l = offered-is (s .args .set) (c .before .before .wide .ensures .0) (c .before .offered .ensures) (c .if3 .left) in
-    told s (c .before .offered .result) (rw (g .1, l, c .if3 .left))
+    let l = offered-is (s .args .set) (c .before .before .wide .ensures .0) (c .before .offered2 .ensures) (c .if3 .left) in
+    told s (c .before .offered2 .result) (rw (g .1, l, c .if3 .left))
 
 returns-12 : tie.Need-returns-12
 returns-12 c =
     let s = c .before .before .before .before .before .before .before in
     let g = c .before .before .before .before .rule3 .given in
-    let l = offered-is (s .args .set) (c .before .before .wide3 .ensures .0) (c .before .offered3 .ensures) (c .if4 .taken) in
-    told s (c .before .offered3 .result) (rw (g .1, l, c .if4 .taken))
+    let l = offered-is (s .args .set) (c .before .before .wide3 .ensures .0) (c .before .offered4 .ensures) (c .if4 .taken) in
+    told s (c .before .offered4 .result) (rw (g .1, l, c .if4 .taken))
 
 returns-13 : tie.Need-returns-13
 returns-13 c =
     let s = c .before .before .before .before .before .before .before .before .before in
     let g = c .before .before .before .before .before .before .rule3 .given in
-    let l = offered-is (s .args .set) (c .before .before .before .before .wide3 .ensures .0) (c .before .before .before .offered3 .ensures) (c .before .before .if4 .left) in
-    let r = offered-is (s .args .set) (c .before .wide4 .ensures .0) (c .offered4 .ensures) refl in
-    told s (c .offered4 .result) (rw (g .1, l, r))
+    let l = offered-is (s .args .set) (c .before .before .before .before .wide3 .ensures .0) (c .before .before .before .offered4 .ensures) (c .before .before .if4 .left) in
+    let r = offered-is (s .args .set) (c .before .wide4 .ensures .0) (c .offered5 .ensures) refl in
+    told s (c .offered5 .result) (rw (g .1, l, r))
 
 pub rule-admits-spec : {M : Type 1} → statement M
 rule-admits-spec =
@@ -150,16 +156,18 @@ rule-admits-spec =
     enum-told-5
     enum-told-6
     enum-known-rule
+    cast-offered
+    offered-requires
     enum-known-rule-2
     wide-requires
-    offered-requires
-    wide-requires-2
     offered-requires-2
+    wide-requires-2
+    offered-requires-3
     enum-known-rule-3
     wide-requires-3
-    offered-requires-3
-    wide-requires-4
     offered-requires-4
+    wide-requires-4
+    offered-requires-5
     returns
     returns-2
     returns-3

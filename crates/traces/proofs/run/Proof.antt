@@ -31,8 +31,8 @@ room-requires c κs = search needs
 loop-holds : tie.Need-loop-holds Inv-loop μ-loop
 loop-holds c = (omega arith, omega arith, omega arith, omega arith, omega arith, refl, refl, refl, refl, start _ _ _ _ _ _, start-kept _ _ _)
 
-turn-requires : tie.Need-turn-requires Inv-loop μ-loop
-turn-requires c κs = search needs
+call-requires : tie.Need-call-requires Inv-loop μ-loop
+call-requires c κs = search needs
 
 slice-write-answers : tie.Need-slice-write-answers Inv-loop μ-loop
 slice-write-answers c = omega arith
@@ -56,13 +56,13 @@ loop-again c =
       omega arith,
       simp length-set (omega arith),
       simp length-set (omega arith),
-      omega (arith, c .before .before .before .before .turn .kept .1 .1 .1 .1 .0),
-      omega (arith, c .before .before .before .before .turn .kept .1 .0),
+      omega (arith, c .before .before .before .before .call .kept .1 .1 .1 .1 .0),
+      omega (arith, c .before .before .before .before .call .kept .1 .0),
       simp length-set (omega arith),
       simp length-set (omega arith),
-      omega (arith, c .before .before .before .before .turn .kept .1 .1 .1 .1 .0),
-      then _ _ _ _ _ _ _ _ _ _ _ _ (omega arith) (omega arith) (omega arith) (c .before .before .before .before .turn .kept .1 .1 .1 .1 .0) (at .inv .9) (c .before .before .before .before .turn .ensures),
-      then-kept _ _ _ _ _ _ _ _ _ _ (omega arith) (at .inv .10) (c .before .before .before .before .turn .ensures .1) (c .before .before .before .before .turn .ensures .2),
+      omega (arith, c .before .before .before .before .call .kept .1 .1 .1 .1 .0),
+      then _ _ _ _ _ _ _ _ _ _ _ _ (omega arith) (omega arith) (omega arith) (c .before .before .before .before .call .kept .1 .1 .1 .1 .0) (at .inv .9) (c .before .before .before .before .call .ensures),
+      then-kept _ _ _ _ _ _ _ _ _ _ (omega arith) (at .inv .10) (c .before .before .before .before .call .ensures .1) (c .before .before .before .before .call .ensures .2),
     )
 
 same-length : tie.Need-same-length Inv-loop μ-loop
@@ -89,7 +89,7 @@ run-spec =
     μ-loop
     room-requires
     loop-holds
-    turn-requires
+    call-requires
     slice-write-answers
     mul-counts
     slice-write-counts

@@ -1,0 +1,3 @@
+pub mod Refusals
+pub mod EventAnswers
+pub mod SetAnswers

@@ -1,0 +1,3 @@
+pub mod FromContracts
+pub mod Guards
+pub mod Sound

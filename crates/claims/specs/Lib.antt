@@ -1,0 +1,2 @@
+pub mod FiveCalls
+pub mod Cite

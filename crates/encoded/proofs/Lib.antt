@@ -1,0 +1,4 @@
+mod Made
+pub mod Complete
+mod PartWritten
+mod Decoding

@@ -1,0 +1,63 @@
+-- The steps of the log program.
+use Prim.Native.Nat.{ℕ, _+_, _≤_, _<_}
+use mathlib.Core.Path.{_≡_, refl}
+use mathlib.Core.List.{List, [], _++_}
+use mathlib.Core.Logic.{inl, inr}
+use native.Mathlib.Omega.{arith}
+use lib.ListN.{length, take, drop, length-append}
+use lib.Seq.{take-at}
+use Rattle.model.specs.Text.{lineOf}
+use Rattle.lines.specs.Put.{Put}
+use Rattle.lines.proofs.Putting.{put-none}
+use Rattle.record_call.specs.Lined.{Lined}
+use Rattle.record_call.specs.declared.Line.{Line}
+use Rattle.record_call.specs.declared.Line.the-variants.{Next, Last, End}
+use Rattle.fresh_start.specs.Stands.{Ready, Stepped}
+use Rattle.fresh_start.specs.declared.Stand.{Stand}
+use Rattle.fresh_start.specs.declared.Filled.{Filled}
+use Rattle.fresh_start.specs.declared.Stand.the-variants.{Start as AtStart, At, Over}
+
+module _ (b log net old : List ℕ) (used : ℕ) where
+  -- the step of a record
+  module _ (place position count : ℕ) (out : List ℕ) (line : Line) (part left : List ℕ) (lent : 256 ≡ length out) (h : Lined b log place (take count net) out line part left) where
+    -- how many were listed
+    pub listed : (answer many following : ℕ) → line ≡ Next answer many following → many ≤ length left
+    listed answer many following e =
+        let (q, n, m, l) : Lined b log place (take count net) out (Next answer many following) part left = rw e at h in l .front .within
+
+    pub step-next : (answer many following end : ℕ) (after : List ℕ) → line ≡ Next answer many following → length part ≡ count
+        → Put old used (lineOf position answer (take many left)) end after
+        → Stepped b log net old used (At place position count) (record { stand = At following (position + 1) count; used = end }) (part ++ drop count net) after
+    step-next answer many following end after e size p =
+        let (q, n, m, l) : Lined b log place (take count net) out (Next answer many following) part left = rw e at h in
+        record {
+          line = lineOf position answer (take many left);
+          steps = rw (take-at part (drop count net) count size) (record { request = q; answer = answer; written = take many left }, rw (← lent) at n, l .called, refl, m, refl);
+          put = p;
+          sized = omega (arith, size, length-append part (drop count net));
+        }
+
+    pub step-last : (end : ℕ) (net' after : List ℕ) → line ≡ Last → Put old used (lineOf position 14 []) end after
+        → Stepped b log net old used (At place position count) (record { stand = Over; used = end }) net' after
+    step-last end net' after e p =
+        let n : Lined b log place (take count net) out Last part left = rw e at h in
+        record { line = lineOf position 14 []; steps = inl (rw (← lent) at n, refl); put = p; sized = tt }
+
+    pub step-end : (net' : List ℕ) → line ≡ End → used ≤ length old
+        → Stepped b log net old used (At place position count) (record { stand = Over; used = used }) net' old
+    step-end net' e room =
+        let n : Lined b log place (take count net) out End part left = rw e at h in
+        record { line = []; steps = inr (n, refl); put = put-none room; sized = tt }
+
+-- what is ready, by where it stands
+pub ready-start : {s : Stand} {lent : ℕ} → s ≡ AtStart → Ready s lent → 39296 ≤ lent
+ready-start e h = rw e at h
+
+pub ready-at : {s : Stand} {place position count lent : ℕ} → s ≡ At place position count → Ready s lent → (position < 65535) × (count ≤ lent)
+ready-at e h = rw e at h
+
+pub ready-over : {s : Stand} (lent : ℕ) → s ≡ Over → Ready s lent → ⊥
+ready-over lent e h = rw e at h
+
+pub stepped-as : {b log net old : List ℕ} {used : ℕ} {s t : Stand} {to : Filled} {net' after : List ℕ} → s ≡ t → Stepped b log net old used t to net' after → Stepped b log net old used s to net' after
+stepped-as e h = rw e h
