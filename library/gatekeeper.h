@@ -1,4 +1,4 @@
-/* The gatekeeper's calls for C (crates/gatekeeper). Every call but that for a length answers document 01's number: 0 is a grant.
+/* The gatekeeper's calls for C (crates/gatekeeper). Every call but that for a length answers document 01's number.
  *
  * The calls are proved for any bytes and any numbers. What follows is asked of the caller, and nothing checks it here:
  *
@@ -6,11 +6,12 @@
  *   count for one size_t. A length counts elements, not bytes. With length 0 the pointer may be NULL; count may not.
  * - What a call may write (network in fresh, event and set; output and count in list) is writable.
  * - output is aligned for uint16_t, and count for size_t.
- * - No two of scheme, network, output and count overlap.
+ * - What a call may write overlaps nothing else that is lent to it. What it only reads may be the same.
  * - While a call runs, no other thread writes anything lent to it, or reads a network, an output or a count that it may
  *   write: one thread at a time for each network. The library itself keeps nothing between calls.
  *
- * A call needs less than 16 kilobytes of stack, allocates nothing and calls nothing outside the library. */
+ * A call needs less than 16 kilobytes of stack, allocates nothing and calls nothing outside the library but memset, the one
+ * symbol that the archive leaves undefined: given that, it links with -nostdlib. */
 #ifndef GATEKEEPER_H
 #define GATEKEEPER_H
 
@@ -20,6 +21,24 @@
 #ifdef __cplusplus
 extern "C" {
 #endif
+
+/* Document 01's answers. A call gives the first refusal that applies. 14 and 15 are answers to logs: no call gives them. */
+enum gatekeeper_answer {
+    GATEKEEPER_GRANTED = 0,           /* granted */
+    GATEKEEPER_SCHEME_RECORDS = 1,    /* a record of the scheme is cut, of another kind or length, or bytes follow the fifth */
+    GATEKEEPER_SCHEME_COUNTS = 2,     /* a count of the scheme's head is outside its range */
+    GATEKEEPER_SCHEME_BYTES = 3,      /* a byte inside the scheme's kinds 2 to 5 is off */
+    GATEKEEPER_SCHEME_STRANGERS = 4,  /* state 0 makes friends, or the lowest search policy admits strangers */
+    GATEKEEPER_NETWORK_BYTES = 5,     /* the network's length is off, or, but in fresh, one of its bytes */
+    GATEKEEPER_NO_MEMBER = 6,         /* v or u is no member */
+    GATEKEEPER_NO_RESOURCE = 7,       /* there is no such primitive (event), resource (set) or item (view) */
+    GATEKEEPER_SAME_MEMBER = 8,       /* event: v is u */
+    GATEKEEPER_NOT_FOUND = 9,         /* event, find, list, view: v does not find u */
+    GATEKEEPER_NO_NEXT_STATE = 10,    /* event: the primitive is undefined in the pair's state, for v's side */
+    GATEKEEPER_NOT_ADMITTED = 11,     /* event, list, view: u's setting does not admit v */
+    GATEKEEPER_NOT_OFFERED = 12,      /* set: the policy may not be chosen for the resource */
+    GATEKEEPER_OUTPUT_SHORT = 13      /* list: the output has fewer places than there are members */
+};
 
 /* The scheme check: 0 to 4. */
 uint8_t gatekeeper_check(const uint8_t *scheme, size_t scheme_length);

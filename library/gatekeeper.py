@@ -1,18 +1,49 @@
 """The gatekeeper's calls for Python, over libgatekeeper.so, which library/build makes.
 
-A scheme is any object with bytes, a network too (a bytearray where a call may write it), and the output of a list is a
-writable object of 16-bit numbers, as array('H', ..). Every call answers document 01's number; 0 is a grant. An argument
-that cannot be passed raises ValueError, and then nothing is called.
+A scheme is any object with bytes, a network too (one that can be written, as a bytearray, where a call may write it), and the
+output of a list is a writable object of 16-bit numbers, as array('H', ..); arrays of ctypes are such objects. Every call
+answers document 01's number, one of Answer. An argument that cannot be passed raises ValueError, and then nothing is called.
 
-What gatekeeper.h asks of a caller is kept here: lengths are taken from the objects, what overlaps is refused, and a call
-holds the interpreter's lock, so that no other thread of it runs meanwhile.
+What gatekeeper.h asks of a caller is kept here: lengths are taken from the objects, what a call may write overlaps nothing
+else that is lent, and a call holds the interpreter's lock, so that no other thread of it runs meanwhile. No object is kept
+after a call, or after an error.
+
+`from gatekeeper import *` leaves out set and list, which would hide Python's own: they are gatekeeper.set and gatekeeper.list.
 """
 import ctypes
+import enum
 import operator
 import os
+import sys
+from collections import namedtuple
+from contextlib import contextmanager
+
+__all__ = ['Answer', 'check', 'event', 'find', 'fresh', 'network_length', 'view']
+
+
+class Answer(enum.IntEnum):
+    """Document 01's answers, with the names and meanings of gatekeeper.h."""
+    GRANTED = 0
+    SCHEME_RECORDS = 1
+    SCHEME_COUNTS = 2
+    SCHEME_BYTES = 3
+    SCHEME_STRANGERS = 4
+    NETWORK_BYTES = 5
+    NO_MEMBER = 6
+    NO_RESOURCE = 7
+    SAME_MEMBER = 8
+    NOT_FOUND = 9
+    NO_NEXT_STATE = 10
+    NOT_ADMITTED = 11
+    NOT_OFFERED = 12
+    OUTPUT_SHORT = 13
+
 
 _DEFAULT = os.path.join(os.path.dirname(os.path.abspath(__file__)), '..', 'target', 'library', 'libgatekeeper.so')
-_library = ctypes.PyDLL(os.environ.get('GATEKEEPER_LIBRARY', _DEFAULT))     # PyDLL keeps the lock; CDLL would not
+try:
+    _library = ctypes.PyDLL(os.environ.get('GATEKEEPER_LIBRARY', _DEFAULT))     # PyDLL keeps the lock; CDLL would not
+except OSError as error:
+    raise ImportError('%s; library/build builds it' % error) from None
 
 _BYTES = [ctypes.c_void_p, ctypes.c_size_t]
 _NUMBER = [ctypes.c_size_t]
@@ -28,33 +59,31 @@ for _name, _arguments in _SIGNATURES.items():
     _calls[_name].restype = ctypes.c_size_t if _name == 'network_length' else ctypes.c_uint8
 
 _LARGEST = 2 ** (8 * ctypes.sizeof(ctypes.c_size_t)) - 1
+_NATIVE = ('', '@', '=', '<' if sys.byteorder == 'little' else '>')         # byte orders, as formats begin
+
+_Part = namedtuple('_Part', 'at length end written')
 
 
-class _Lent:
-    """An object's elements for the length of a call: where they stand, how many, and the end. It keeps them in place."""
-
-    def __init__(self, value, written, name, codes='Bbc', width=1):
-        try:
-            view = memoryview(value)
-        except TypeError:
-            raise ValueError('%s has no bytes to lend' % name) from None
-        if not view.c_contiguous or view.format not in codes or view.itemsize != width:
+@contextmanager
+def _lent(value, name, written=False, codes='Bbc', width=1):
+    """Where an object's elements stand, and how many; it keeps them in place meanwhile, and lets go of them in any case."""
+    try:
+        view = memoryview(value)
+    except (TypeError, BufferError):
+        raise ValueError('%s has no bytes to lend' % name) from None
+    with view:
+        if not view.c_contiguous or view.format[:-1] not in _NATIVE or view.format[-1] not in codes or view.itemsize != width:
             raise ValueError('%s is not one row of %d-bit numbers' % (name, 8 * width))
         if view.readonly and written:
             raise ValueError('%s cannot be written' % name)
         if view.readonly:
-            self.held = view.obj if isinstance(view.obj, bytes) and len(view.obj) == view.nbytes else bytes(view)
-            self.at = ctypes.cast(ctypes.c_char_p(self.held), ctypes.c_void_p).value
+            held = view.obj if isinstance(view.obj, bytes) and len(view.obj) == view.nbytes else view.tobytes()
+            at = ctypes.cast(ctypes.c_char_p(held), ctypes.c_void_p).value
         else:
-            self.held = (ctypes.c_char * view.nbytes).from_buffer(view)
-            self.at = ctypes.addressof(self.held)
-        if self.at % width != 0:
+            at = ctypes.addressof((ctypes.c_char * view.nbytes).from_buffer(view))
+        if at % width != 0:
             raise ValueError('%s does not stand at a multiple of %d' % (name, width))
-        self.length = view.nbytes // width
-        self.end = self.at + view.nbytes
-
-    def overlaps(self, other):
-        return self.at < other.end and other.at < self.end
+        yield _Part(at, view.nbytes // width, at + view.nbytes, written)
 
 
 def _number(value, name):
@@ -67,30 +96,31 @@ def _number(value, name):
     return value
 
 
-def _apart(*lent):
-    """Where each part stands and its length, if no two overlap."""
-    for i, one in enumerate(lent):
-        if any(one.overlaps(other) for other in lent[:i]):
-            raise ValueError('what is lent overlaps')
-    return [value for part in lent for value in (part.at, part.length)]
+def _apart(*parts):
+    """Where each part stands and its length, if none that is written overlaps another."""
+    for i, one in enumerate(parts):
+        for other in parts[:i]:
+            if (one.written or other.written) and one.at < other.end and other.at < one.end:
+                raise ValueError('what is written overlaps what else is lent')
+    return [value for part in parts for value in (part.at, part.length)]
 
 
 def _request(call, scheme, network, written, **numbers):
-    lent_scheme, lent_network = _Lent(scheme, False, 'scheme'), _Lent(network, written, 'network')
-    arguments = _apart(lent_scheme, lent_network) + [_number(value, name) for name, value in numbers.items()]
-    return _calls[call](*arguments)
+    values = [_number(value, name) for name, value in numbers.items()]
+    with _lent(scheme, 'scheme') as scheme_part, _lent(network, 'network', written) as network_part:
+        return _calls[call](*_apart(scheme_part, network_part), *values)
 
 
 def check(scheme):
     """The scheme check."""
-    lent = _Lent(scheme, False, 'scheme')
-    return _calls['check'](lent.at, lent.length)
+    with _lent(scheme, 'scheme') as part:
+        return _calls['check'](part.at, part.length)
 
 
 def network_length(scheme):
     """How many bytes a network has under an accepted scheme; 0 under any other."""
-    lent = _Lent(scheme, False, 'scheme')
-    return _calls['network_length'](lent.at, lent.length)
+    with _lent(scheme, 'scheme') as part:
+        return _calls['network_length'](part.at, part.length)
 
 
 def fresh(scheme, network):
@@ -115,12 +145,13 @@ def find(scheme, network, v, u):
 
 def list(scheme, network, v, u, output):
     """Member v asks for u's friends: the answer, and how many were written at the front of the output, None if refused."""
-    lent_scheme, lent_network = _Lent(scheme, False, 'scheme'), _Lent(network, False, 'network')
-    lent_output = _Lent(output, True, 'output', 'H', 2)
-    places = _apart(lent_scheme, lent_network, lent_output)
+    numbers = _number(v, 'v'), _number(u, 'u')
     count = ctypes.c_size_t()
-    answer = _calls['list'](*places[:4], _number(v, 'v'), _number(u, 'u'), *places[4:], ctypes.byref(count))
-    return answer, count.value if answer == 0 else None
+    with _lent(scheme, 'scheme') as scheme_part, _lent(network, 'network') as network_part, \
+            _lent(output, 'output', True, 'H', 2) as output_part:
+        places = _apart(scheme_part, network_part, output_part)
+        answer = _calls['list'](*places[:4], *numbers, *places[4:], ctypes.byref(count))
+    return answer, count.value if answer == Answer.GRANTED else None
 
 
 def view(scheme, network, v, u, o):

@@ -1,6 +1,24 @@
 //! The gatekeeper's calls for Rust. What gatekeeper.h asks of a caller, Rust's borrows keep: slices are valid for their
 //! lengths and aligned, and what is lent as `&mut` is lent to nobody else.
 
+/// Document 01's answers, with the names and meanings of gatekeeper.h.
+pub mod answer {
+    pub const GRANTED: u8 = 0;
+    pub const SCHEME_RECORDS: u8 = 1;
+    pub const SCHEME_COUNTS: u8 = 2;
+    pub const SCHEME_BYTES: u8 = 3;
+    pub const SCHEME_STRANGERS: u8 = 4;
+    pub const NETWORK_BYTES: u8 = 5;
+    pub const NO_MEMBER: u8 = 6;
+    pub const NO_RESOURCE: u8 = 7;
+    pub const SAME_MEMBER: u8 = 8;
+    pub const NOT_FOUND: u8 = 9;
+    pub const NO_NEXT_STATE: u8 = 10;
+    pub const NOT_ADMITTED: u8 = 11;
+    pub const NOT_OFFERED: u8 = 12;
+    pub const OUTPUT_SHORT: u8 = 13;
+}
+
 mod c {
     extern "C" {
         pub fn gatekeeper_check(scheme: *const u8, scheme_length: usize) -> u8;
@@ -64,7 +82,7 @@ pub fn list(scheme: &[u8], network: &[u8], v: usize, u: usize, output: &mut [u16
             output.as_mut_ptr(), output.len(), &mut count,
         )
     };
-    if answer == 0 { Ok(count) } else { Err(answer) }
+    if answer == answer::GRANTED { Ok(count) } else { Err(answer) }
 }
 
 /// Member v asks for item o of member u.

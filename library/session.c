@@ -27,7 +27,7 @@ static void read_scheme(const char *name)
         fail("no scheme");
     scheme_length = fread(scheme, 1, sizeof scheme, file);
     fclose(file);
-    if (gatekeeper_check(scheme, scheme_length) != 0)
+    if (gatekeeper_check(scheme, scheme_length) != GATEKEEPER_GRANTED)
         fail("the scheme is refused");
 }
 
@@ -61,7 +61,7 @@ int main(int count, char **arguments)
         fail("session SCHEME REQUESTS");
     read_scheme(arguments[1]);
     network_length = gatekeeper_network_length(scheme, scheme_length);
-    if (gatekeeper_fresh(scheme, scheme_length, network, network_length) != 0)
+    if (gatekeeper_fresh(scheme, scheme_length, network, network_length) != GATEKEEPER_GRANTED)
         fail("no fresh network");
 
     FILE *file = fopen(arguments[2], "r");

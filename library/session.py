@@ -4,6 +4,7 @@ import sys
 from array import array
 
 import gatekeeper
+from gatekeeper import Answer
 
 
 def answer_line(scheme, network, name, numbers):
@@ -11,7 +12,7 @@ def answer_line(scheme, network, name, numbers):
     if name == 'list':
         output = array('H', bytes(512))
         answer, count = gatekeeper.list(scheme, network, *numbers, output)
-        return ' '.join(map(str, [answer] + output[:count].tolist() if answer == 0 else [answer]))
+        return ' '.join(map(str, [answer] + output[:count].tolist() if answer == Answer.GRANTED else [answer]))
     call = {'event': gatekeeper.event, 'set': gatekeeper.set, 'find': gatekeeper.find, 'view': gatekeeper.view}[name]
     return str(call(scheme, network, *numbers))
 
@@ -19,10 +20,10 @@ def answer_line(scheme, network, name, numbers):
 def main(scheme_file, requests_file):
     with open(scheme_file, 'rb') as file:
         scheme = file.read()
-    if gatekeeper.check(scheme) != 0:
+    if gatekeeper.check(scheme) != Answer.GRANTED:
         sys.exit('the scheme is refused')
     network = bytearray(gatekeeper.network_length(scheme))
-    if gatekeeper.fresh(scheme, network) != 0:
+    if gatekeeper.fresh(scheme, network) != Answer.GRANTED:
         sys.exit('no fresh network')
     with open(requests_file) as file:
         for position, line in enumerate(file, 1):

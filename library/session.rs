@@ -24,9 +24,9 @@ fn main() {
     let files: Vec<String> = std::env::args().skip(1).collect();
     let scheme = std::fs::read(&files[0]).expect("no scheme");
     let requests = std::fs::read_to_string(&files[1]).expect("no requests");
-    assert_eq!(gatekeeper::check(&scheme), 0, "the scheme is refused");
+    assert_eq!(gatekeeper::check(&scheme), gatekeeper::answer::GRANTED, "the scheme is refused");
     let mut network = vec![0; gatekeeper::network_length(&scheme)];
-    assert_eq!(gatekeeper::fresh(&scheme, &mut network), 0, "no fresh network");
+    assert_eq!(gatekeeper::fresh(&scheme, &mut network), gatekeeper::answer::GRANTED, "no fresh network");
     for (i, line) in requests.lines().enumerate() {
         let mut words = line.split_whitespace();
         let name = words.next().expect("an empty line");

@@ -7,5 +7,5 @@ sys.dont_write_bytecode = True      # no __pycache__ in the repository
 import reference as ref
 
 if __name__ == '__main__':
-    for line in ref.run(ref.contents('scheme'), ref.contents('requests')):
+    for line in ref.run(ref.contents('scheme', ref.SCHEME_READ), ref.contents('requests', ref.LOG_READ)):
         print(line)

@@ -7,13 +7,14 @@ A line is a request; `#` begins a comment.
     list V U                  V asks for U's friends
     view V U ITEM
     bytes 05 00 ff            any bytes, for records that are no requests
-Members are numbers. All else is a name of the scheme or a number; numbers may be beyond what the scheme has.
+Members are numbers. All else is a name of the scheme or a number; numbers may be beyond what the scheme has. Texts are UTF-8; a
+byte order mark before them and carriage returns at the ends of lines are passed over.
 """
 import re
 
 import reference as ref
 from scheme_text import resource_names
-from text_lines import DIGITS, Fault, Lines, number, place_of
+from text_lines import DIGITS, Fault, Lines, number, place_of, shown
 
 FIELDS = {'event': ('member', 'member', 'primitive'), 'set': ('member', 'resource', 'policy'), 'find': ('member', 'member'),
           'list': ('member', 'member'), 'view': ('member', 'member', 'item')}
@@ -32,34 +33,35 @@ def names_of(names, sort):
 def parse_log(name, data, names):
     """The bytes of a log's text; BadText where it has faults."""
     lines = Lines(name, data)
+    places = {sort: {word: i for i, word in enumerate(names_of(names, sort))} for sorts in FIELDS.values() for sort in sorts}
     log = []
     for place, content in lines.lines:
         with lines.at(place):
-            log.append(parse_line(content.split(), names))
+            log.append(parse_line(content.split(), places))
     lines.finish()
     return b''.join(log)
 
 
-def parse_line(words, names):
+def parse_line(words, places):
     kind, *arguments = words
     if kind == 'bytes':
         for word in arguments:
             if not BYTE.fullmatch(word):
-                raise Fault("a byte is two digits of base 16, and not '%s'" % word)
+                raise Fault("a byte is two digits of base 16, and not '%s'" % shown(word))
         return bytes(int(word, 16) for word in arguments)
     if kind not in FIELDS:
-        raise Fault("'%s' is no request; requests are %s, and bytes" % (kind, ', '.join(FIELDS)))
+        raise Fault("'%s' is no request; requests are %s, and bytes" % (shown(kind), ', '.join(FIELDS)))
     sorts = FIELDS[kind]
     if len(arguments) != len(sorts):
         raise Fault("'%s' has %d arguments (%s), and not %d" % (kind, len(sorts), ', '.join(sorts), len(arguments)))
-    values = [parse_field(word, sort, names) for word, sort in zip(arguments, sorts)]
+    values = [parse_field(word, sort, places[sort]) for word, sort in zip(arguments, sorts)]
     return ref.build_log([(kind, *values)])
 
 
-def parse_field(word, sort, names):
+def parse_field(word, sort, places):
     if sort == 'member' or DIGITS.fullmatch(word):
         return number(word, "a %s's number" % sort, 0, 65535 if sort == 'member' else 255)
-    return place_of(word, sort, names_of(names, sort))
+    return place_of(word, sort, places)
 
 
 # ---- Bytes to text

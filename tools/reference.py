@@ -16,6 +16,7 @@ LIMITS = Counts(256, 16, 8, 16, 32)
 UNDEFINED = 255
 SEARCH, TRAVERSAL, PRIMITIVES = 0, 1, 2         # resource numbers
 LOG_LIMIT = 16384
+SCHEME_READ, LOG_READ = 4096, 65536     # bytes that are read of the files; what follows them changes no answer
 
 
 # ---- Scheme
@@ -524,18 +525,18 @@ def self_check():
     return failures == 0
 
 
-def contents(name):
-    """A file's bytes; one that cannot be read counts as empty."""
+def contents(name, most):
+    """A file's first bytes; one that cannot be read counts as empty."""
     try:
         with open(name, 'rb') as file:
-            return file.read()
+            return file.read(most)
     except OSError:
         return b''
 
 
 if __name__ == '__main__':
     if len(sys.argv) == 3:
-        for line in run(contents(sys.argv[1]), contents(sys.argv[2])):
+        for line in run(contents(sys.argv[1], SCHEME_READ), contents(sys.argv[2], LOG_READ)):
             print(line)
     else:
         sys.exit(0 if self_check() else 1)

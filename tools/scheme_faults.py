@@ -2,6 +2,7 @@
 from collections import namedtuple
 
 import reference as ref
+from text_lines import shown
 
 # the check's answer; its faults as (byte offset, sentence); the scheme, where the answer is 0 or 4
 Examined = namedtuple('Examined', 'answer faults scheme')
@@ -34,7 +35,7 @@ def examine(data, names=None):
         places.append(at + 4)
         at += 4 + length
     if at < len(data):
-        return Examined(1, [(at, '%d bytes follow the fifth record' % (len(data) - at))], None)
+        return Examined(1, [(at, 'bytes follow the fifth record')], None)
     scheme = decoded(data, counts, places)
     faults = [(places[record] + at, what) for record, at, what in byte_faults(scheme)]
     if faults:
@@ -121,4 +122,4 @@ def stranger_faults(scheme, places, names):
     if not ref.strangers_apart(scheme._replace(marks=bytes(len(scheme.marks)))):
         p = ref.lowest(scheme.masks[ref.SEARCH])
         yield places[3], ('record 5 (masks): the lowest policy for search, %s, admits strangers'
-                          % (names.policies[p] if names else p))
+                          % (shown(names.policies[p]) if names else p))

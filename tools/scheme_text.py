@@ -9,20 +9,22 @@ Each line is `KEY: VALUE`; `#` begins a comment.
     move: stranger, lesser, ask -> asked        side of who acts: the member of the lesser or the greater number
     policy NAME: no one | everyone | owner | within K | known K | clique K | both P Q | either P Q
                | state {STATE ..} | state {STATE ..} owner-lower | state {STATE ..} owner-higher
-    search: P ..                                the policies that may be chosen for it; the one defined first is the fresh one
+    search: P ..                                the policies that may be chosen for it
     traversal: P ..
     primitive NAME: P ..
     item NAME: P ..
-Policies are numbered in the order of their lines, and P and Q stand before the policy that names them. A name begins with a
-letter and goes on with letters, digits, - and _.
+Policies are numbered in the order of their lines, and P and Q stand before the policy that names them. What a resource has at
+first, its default, is the policy of its list whose line `policy NAME: ..` stands first, in whatever order the list has them. A
+name begins with a letter, goes on with letters, digits, - and _, and stands in a list once. Texts are UTF-8; a byte order mark
+before them and carriage returns at the ends of lines are passed over.
 """
 import re
-from collections import namedtuple
+from collections import Counter, namedtuple
 
 import reference as ref
-from text_lines import Fault, Lines, NAME, number, place_of
+from text_lines import Fault, Lines, NAME, number, place_of, shown
 
-Names = namedtuple('Names', 'states primitives items policies')
+Names = namedtuple('Names', 'states primitives items policies')     # lists; while a text is read, the places by name
 
 SINGLE = ('members', 'states', 'friends', 'primitives', 'items')
 RESOURCES = ('search', 'traversal', 'primitive', 'item')
@@ -32,7 +34,6 @@ COUNTED = {'within': (3, 1, 255), 'known': (4, 1, 255), 'clique': (5, 2, 5)}    
 COMBINED = {'both': 7, 'either': 8}
 OWNERS = ('', 'owner-lower', 'owner-higher')                                      # by k of a state policy
 STATE = re.compile(r'state *\{([^{}]*)\} *(owner-lower|owner-higher|)')
-MOVE = re.compile(r'(\S+) *, *(\S+) *, *(\S+) *-> *(\S+)')
 
 
 def resource_names(names):
@@ -73,7 +74,7 @@ class SchemeLines(Lines):
             self.resources.append((place, words, value.split()))
         else:
             raise Fault("unknown key '%s'; the keys are %s, move, policy NAME, search, traversal, primitive NAME and item NAME"
-                        % (' '.join(words), ', '.join(SINGLE)))
+                        % (shown(' '.join(words)), ', '.join(SINGLE)))
 
     def value(self, key):
         """The line of a key that stands once, and its value; nothing where it is missing."""
@@ -95,21 +96,21 @@ def parse_scheme(name, data):
     masks = parse_masks(lines, names)
     lines.finish()
     counts = (members, len(names.states), len(names.primitives), len(names.items), len(names.policies))
-    return names, ref.build_scheme(counts, moves, friends, policies, masks)
+    return Names(*map(list, names)), ref.build_scheme(counts, moves, friends, policies, masks)
 
 
 def add_name(names, word, what, most):
     if not NAME.fullmatch(word):
-        raise Fault("'%s' is no name: a letter, then letters, digits, - and _" % word)
+        raise Fault("'%s' is no name: a letter, then letters, digits, - and _" % shown(word))
     if word in names:
-        raise Fault("the %s '%s' is defined twice" % (what, word))
-    names.append(word)
+        raise Fault("the %s '%s' is defined twice" % (what, shown(word)))
+    names[word] = len(names)
     if len(names) == most + 1:
         raise Fault('there are more than %d %s' % (most, {'policy': 'policies'}.get(what, what + 's')))
 
 
 def parse_names(lines):
-    names = Names([], [], [], [])
+    names = Names({}, {}, {}, {})
     for key, what, own in zip(('states', 'primitives', 'items'), ('state', 'primitive', 'item'), names):
         place, value = lines.value(key)
         for word in value.split():
@@ -118,10 +119,9 @@ def parse_names(lines):
         if place and not own:
             with lines.at(place):
                 raise Fault('there is at least one ' + what)
-    resources = resource_names(names)
-    for word in sorted({word for word in resources if resources.count(word) > 1}):
+    for word in sorted(word for word, count in Counter(resource_names(names)).items() if count > 1):
         with lines.at(lines.value('items' if word in names.items else 'primitives')[0]):
-            raise Fault("search, traversal, primitives and items have different names, and two are '%s'" % word)
+            raise Fault("search, traversal, primitives and items have different names, and two are '%s'" % shown(word))
     for place, word, _ in lines.policies:
         with lines.at(place):
             add_name(names.policies, word, 'policy', ref.LIMITS.policies)
@@ -131,32 +131,43 @@ def parse_names(lines):
     return names
 
 
+def places_in(lines, place, words, what, names):
+    """The places of the names that a list has, each once."""
+    places = set()
+    for word in words:
+        with lines.at(place):
+            found = place_of(word, what, names)
+            if found in places:
+                raise Fault("the %s '%s' is named twice" % (what, shown(word)))
+            places.add(found)
+    return {found for found in places if found < 32}        # where there are more names, that is told
+
+
 def parse_friends(lines, names):
     place, value = lines.value('friends')
-    friends = set()
-    for word in value.split():
-        with lines.at(place):
-            state = place_of(word, 'state', names.states)
-            if state in friends:
-                raise Fault("the state '%s' is named twice" % word)
-            friends.add(state)
-    return friends
+    return places_in(lines, place, value.split(), 'state', names.states)
+
+
+def split_move(value):
+    left, _, after = value.partition('->')
+    words = [part.split() for part in (*left.split(','), after)]
+    if len(words) != 4 or any(len(word) != 1 for word in words):
+        raise Fault("a move is 'STATE, lesser or greater, PRIMITIVE -> STATE'")
+    return [word for word, in words]
 
 
 def parse_moves(lines, names):
     moves, places = {}, {}
     for place, value in lines.moves:
         with lines.at(place):
-            match = MOVE.fullmatch(value)
-            if not match:
-                raise Fault("a move is 'STATE, lesser or greater, PRIMITIVE -> STATE'")
-            state, side, primitive, after = match.groups()
+            state, side, primitive, after = split_move(value)
             if side not in SIDES:
-                raise Fault("a side is lesser or greater, and not '%s'" % side)
+                raise Fault("a side is lesser or greater, and not '%s'" % shown(side))
             move = (place_of(state, 'state', names.states), SIDES.index(side),
                     place_of(primitive, 'primitive', names.primitives))
             if move in moves:
-                raise Fault('the move of %s, %s, %s stands in line %d already' % (state, side, primitive, places[move]))
+                raise Fault('the move of %s, %s, %s stands in line %d already'
+                            % (shown(state), side, shown(primitive), places[move]))
             moves[move], places[move] = place_of(after, 'state', names.states), place
     return moves
 
@@ -165,11 +176,11 @@ def parse_policies(lines, names):
     policies = []
     for place, name, value in lines.policies:
         with lines.at(place):
-            policies.append(parse_policy(name, value, names))
+            policies.append(parse_policy(lines, place, name, value, names))
     return policies
 
 
-def parse_policy(name, value, names):
+def parse_policy(lines, place, name, value, names):
     """The four numbers of a policy."""
     words = value.split()
     if ' '.join(words) in PLAIN:
@@ -181,8 +192,7 @@ def parse_policy(name, value, names):
         return (COMBINED[words[0]], 0, *(earlier_policy(name, word, names) for word in words[1:]))
     match = STATE.fullmatch(value)
     if match:
-        states = {place_of(word, 'state', names.states) for word in match[1].split()}
-        mask = ref.mask_of(states)
+        mask = ref.mask_of(places_in(lines, place, match[1].split(), 'state', names.states))
         return (6, OWNERS.index(match[2]), mask % 256, mask // 256)
     raise Fault("a policy is 'no one', 'everyone', 'owner', 'within K', 'known K', 'clique K', 'both P Q', 'either P Q' or "
                 "'state {STATE ..}' with or without 'owner-lower' or 'owner-higher'")
@@ -190,8 +200,8 @@ def parse_policy(name, value, names):
 
 def earlier_policy(name, word, names):
     p = place_of(word, 'policy', names.policies)
-    if name in names.policies and p >= names.policies.index(name):
-        raise Fault("'%s' names '%s', which does not stand before it" % (name, word))
+    if name in names.policies and p >= names.policies[name]:
+        raise Fault("'%s' names '%s', which does not stand before it" % (shown(name), shown(word)))
     return p
 
 
@@ -209,15 +219,15 @@ def parse_masks(lines, names):
         with lines.at(place):
             r = resource_number(words, names)
             if r in places:
-                raise Fault("'%s' stands in line %d already" % (' '.join(words), places[r]))
+                raise Fault("'%s' stands in line %d already" % (shown(' '.join(words)), places[r]))
             places[r] = place
             if not offered:
-                raise Fault("'%s' offers no policy" % ' '.join(words))
-            masks[r] = ref.mask_of({place_of(word, 'policy', names.policies) for word in offered})
+                raise Fault("'%s' offers no policy" % shown(' '.join(words)))
+            masks[r] = ref.mask_of(places_in(lines, place, offered, 'policy', names.policies))
     for r, key in enumerate(resource_keys(names)):
         with lines.at(0):
             if r not in places:
-                raise Fault("there is no line '%s: ..'" % key)
+                raise Fault("there is no line '%s: ..'" % shown(key))
     return [masks.get(r) for r in range(len(resource_names(names)))]
 
 

@@ -3,12 +3,15 @@
 import os
 import random
 import re
+import resource
 import shutil
 import subprocess
 import sys
 import tempfile
+import time
 import unittest
 from collections import Counter
+from unittest import mock
 
 sys.dont_write_bytecode = True      # no __pycache__ in the repository
 import reference as ref
@@ -16,7 +19,8 @@ from cases import changed, parts
 from log_text import log_text, parse_log, read_log
 from scheme_faults import examine
 from scheme_text import numbered_names, parse_scheme, scheme_text
-from text_lines import BadText
+from text_lines import BadText, LONGEST
+import text as commands
 
 TOOLS = os.path.dirname(os.path.abspath(__file__))
 EXAMPLES = os.path.join(TOOLS, '..', 'examples')
@@ -100,7 +104,7 @@ class Schemes(unittest.TestCase):
                 (mask, 16, (mask, 'record 5 (masks): the lowest policy for search, 4, admits strangers')),
                 (mask + 1, 16, (mask, 'record 5 (masks): the lowest policy for search, 12, admits strangers'))):
             self.assertEqual(examine(changed(scheme, at, value)).faults, [told], (at, value))
-        self.assertEqual(examine(scheme + b'ab').faults, [(150, '2 bytes follow the fifth record')])
+        self.assertEqual(examine(scheme + b'ab').faults, [(150, 'bytes follow the fifth record')])
         for size, told in ((120, 'record 5 (masks) is cut: its body has 36 bytes, and 6 are there'),
                            (114, 'record 5 (masks) is cut: its body has 36 bytes, and 0 are there'),
                            (113, 'record 5 (masks) is cut: its head has 4 bytes, and 3 are there')):
@@ -172,6 +176,45 @@ class Faults(unittest.TestCase):
             self.assertEqual(self.faults(lambda: parse_log('L', given, names)),
                              ['L:3: ' + told, "L:4: a member's number is a number, and 'x' is none"])
 
+    def test_line_ends_and_byte_order_marks(self):
+        text, log = content(EXAMPLES, 'standard', 'scheme.txt'), content(EXAMPLES, 'standard', 'requests.txt')
+        names, scheme = parse_scheme('S', text)
+        for given in (text.replace(b'\n', b'\r\n'), b'\xef\xbb\xbf' + text):
+            self.assertEqual(parse_scheme('S', given), (names, scheme))
+        for given in (log.replace(b'\n', b'\r\n'), b'\xef\xbb\xbf' + log):
+            self.assertEqual(parse_log('L', given, names), content(EXAMPLES, 'standard', 'requests'))
+        for order in ('utf-16-le', 'utf-16-be'):
+            given = ('\ufeff' + text.decode()).encode(order)
+            self.assertEqual(self.faults(lambda: parse_scheme('S', given)),
+                             ['S: its byte order mark is that of UTF-16, and texts are UTF-8'])
+        self.assertEqual(self.faults(lambda: parse_log('L', b'# one\rfind 0 1\rfind 1 0\r', names)),
+                         ['L:1: byte 6 of the line is a carriage return, which stands at ends of lines alone'])
+
+    def test_default_follows_the_definitions(self):
+        text = content(EXAMPLES, 'standard', 'scheme.txt').decode()
+        one, other = 'policy no-one: no one\n', 'policy everyone: everyone\n'
+        offered = 'item recipe: no-one only-me only-friends friends-of-friends everyone\n'
+        self.assertTrue(all(text.count(line) == 1 for line in (one, other, offered)))
+        listed = text.replace(offered, 'item recipe: everyone friends-of-friends only-me only-friends no-one\n')
+        self.assertEqual(parse_scheme('S', listed.encode()), parse_scheme('S', text.encode()))
+        defined = text.replace(other, '').replace(one, other + one)
+        for given, default in ((listed, 'no-one'), (defined, 'everyone')):
+            names, scheme = parse_scheme('S', given.encode())
+            self.assertEqual(names.policies[ref.lowest(examine(scheme).scheme.masks[-2])], default)
+
+    def test_names_in_linear_time(self):
+        for lines in MANY_NAMES:
+            def seconds(count):
+                names = ['n%d' % i for i in range(count)]
+                text = ''.join(line.replace('ALL', ' '.join(names)) + '\n' for line in lines if 'EACH' not in line)
+                text += ''.join(line.replace('EACH', name) + '\n' for line in lines if 'EACH' in line for name in names)
+                begun = time.process_time()
+                self.faults(lambda: parse_scheme('S', text.encode()))
+                return time.process_time() - begun
+
+            few, many = min(seconds(2000), seconds(2000)), seconds(20000)
+            self.assertLess(many, 30 * few, lines)      # 10 times the names
+
     def test_edited_schemes(self):
         """Words exchanged at random: a text has faults, or its bytes pass answers 1 to 3."""
         rng = random.Random('edited schemes')
@@ -202,12 +245,20 @@ MOVE = 'move: stranger, lesser, invite -> invited-1'
 FRIENDS = 'policy only-friends: within 1'
 ACCEPT = 'primitive accept: everyone'
 
+# lines of too many names: ALL stands for all of them, EACH for one a line
+MANY_NAMES = [('states: ALL',), ('states: ALL', 'friends: ALL'), ('states: ALL', 'policy p: state {ALL}'),
+              ('primitives: ALL', 'items: ALL'), ('primitives: ALL', 'primitive EACH: p'),
+              ('policy EACH: no one', 'search: ALL'), ('policy EACH: both n0 EACH',),
+              ('states: ALL', 'primitives: n0', 'move: EACH, lesser, n0 -> EACH'),
+              ('move: ,ALL', 'move: ->ALL')]
+
 # what is replaced in the standard example, by what, and the faults: lines counted from that of the change, None for no line
 SCHEME_FAULTS = [
     ('members: 4', 'members: 257', [(0, 'members is 1 to 256, and not 257')]),
     ('members: 4', 'members: 0', [(0, 'members is 1 to 256, and not 0')]),
     ('members: 4', 'members: four', [(0, "members is a number, and 'four' is none")]),
-    ('members: 4', 'members: ' + '9' * 5000, [(0, 'members is 1 to 256, and not ' + '9' * 5000)]),
+    ('members: 4', 'members: ' + '9' * 5000, [(0, 'members is 1 to 256, and not %s..' % ('9' * LONGEST))]),
+    ('members: 4', 'members: \x1b[2J', [(0, "members is a number, and '\\x1b[2J' is none")]),
     ('members: 4', '', [(None, "there is no line 'members: ..'")]),
     ('members: 4', 'members: 4\nmembers: 5', [(1, "'members' stands in line 3 already")]),
     ('members: 4', 'people: 4', [(None, "there is no line 'members: ..'"),
@@ -220,6 +271,8 @@ SCHEME_FAULTS = [
     ('friends: friend', 'friends: friend friend', [(0, "the state 'friend' is named twice")]),
     (ITEMS, ITEMS + ' recipe', [(0, "the item 'recipe' is defined twice")]),
     (ITEMS, ITEMS + ' 4th', [(0, "'4th' is no name: a letter, then letters, digits, - and _")]),
+    (ITEMS, ITEMS + ' \x07' + 99 * 'x', [(0, "'\\x07%s..' is no name: a letter, then letters, digits, - and _" % (79 * 'x'))]),
+    (ITEMS, ITEMS + ' ' + 5000 * 'x', [(None, "there is no line 'item %s..: ..'" % (75 * 'x'))]),
     (ITEMS, ITEMS + ' more', [(None, "there is no line 'item more: ..'")]),
     (ITEMS, ITEMS + ' accept', [(None, "there is no line 'item accept: ..'"),
                                 (0, "search, traversal, primitives and items have different names, and two are 'accept'")]),
@@ -239,6 +292,7 @@ SCHEME_FAULTS = [
     (FRIENDS, 'policy only-friends: near 1', [(0, POLICY_FORMS)]),
     (FRIENDS, 'policy only-friends: state {stranger, friend}', [(0, "there is no state 'stranger,'")]),
     (FRIENDS, 'policy only-friends: state {friend} lower', [(0, POLICY_FORMS)]),
+    (FRIENDS, 'policy only-friends: state {friend stranger friend}', [(0, "the state 'friend' is named twice")]),
     (INVITED, 'policy invited: both invited everyone', [(0, "'invited' names 'invited', which does not stand before it")]),
     (INVITED, 'policy invited: both everyone no-one-or-invited',
      [(0, "'invited' names 'no-one-or-invited', which does not stand before it")]),
@@ -249,6 +303,7 @@ SCHEME_FAULTS = [
     (ACCEPT, '', [(None, "there is no line 'primitive accept: ..'")]),
     (ACCEPT, 'primitive accept:', [(0, "'primitive accept' offers no policy")]),
     (ACCEPT, 'primitive accept: anyone', [(0, "there is no policy 'anyone'")]),
+    (ACCEPT, 'primitive accept: everyone no-one everyone', [(0, "the policy 'everyone' is named twice")]),
     (ACCEPT, ACCEPT + '\nprimitive poke: everyone', [(1, "there is no primitive 'poke'")]),
     (ACCEPT, ACCEPT + '\n' + ACCEPT, [(1, "'primitive accept' stands in line 38 already")]),
 ]
@@ -265,6 +320,9 @@ LOG_FAULTS = [
     ('look 0 1', "'look' is no request; requests are event, set, find, list, view, and bytes"),
     ('bytes 00 1', "a byte is two digits of base 16, and not '1'"),
     ('bytes 00 0x12', "a byte is two digits of base 16, and not '0x12'"),
+    ('bytes ' + 5000 * '\0', "a byte is two digits of base 16, and not '%s..'" % (LONGEST * '\\x00')),
+    ('\x9b31m 0 1', "'\\x9b31m' is no request; requests are event, set, find, list, view, and bytes"),
+    ('event 0 1 \u202epoke', "there is no primitive '\\u202epoke'"),
 ]
 
 
@@ -294,11 +352,17 @@ class Commands(unittest.TestCase):
         for name in ('scheme.txt', 'requests.txt'):
             shutil.copy(os.path.join(EXAMPLES, 'standard', name), self.folder)
 
-    def command(self, *words, status=0):
-        result = subprocess.run([sys.executable, os.path.join(TOOLS, 'text.py'), *words], capture_output=True, text=True,
-                                cwd=self.folder)
+    def command(self, *words, status=0, stdout=subprocess.PIPE, before=(), file_size=resource.RLIM_INFINITY):
+        """What a command prints, or says where it fails."""
+        def limit():
+            resource.setrlimit(resource.RLIMIT_AS, (2 ** 30, 2 ** 30))      # endless files end there
+            resource.setrlimit(resource.RLIMIT_FSIZE, (file_size, file_size))
+
+        buffered = {name: value for name, value in os.environ.items() if name != 'PYTHONUNBUFFERED'}
+        result = subprocess.run([*before, sys.executable, os.path.join(TOOLS, 'text.py'), *words], stdout=stdout, text=True,
+                                stderr=subprocess.PIPE, cwd=self.folder, env=buffered, preexec_fn=limit, timeout=120)
         self.assertEqual(result.returncode, status, result.stderr)
-        self.assertNotIn('Traceback', result.stderr)
+        self.assertNotRegex(result.stderr, 'Traceback|Exception')
         return result.stderr if status else result.stdout
 
     def put(self, name, data, executable=False):
@@ -370,13 +434,114 @@ class Commands(unittest.TestCase):
         os.remove(os.path.join(self.folder, 'scheme.txt'))
         self.put('requests', bytes(16385))
         self.assertEqual(self.command('run', '.', '--program', REFERENCE),
-                         '0  the log  15  refused: 16385 bytes are more than 16384, nothing is run\n')
+                         '0  the log  15  refused: more than 16384 bytes, nothing is run\n')
         self.put('scheme', ref.standard_scheme(257))
         self.assertEqual(self.command('run', '.', '--program', REFERENCE),
                          '0  the scheme   2  refused: a head count is outside its range\n'
                          '  byte 4: record 1 (head): members are 1 to 256, and not 257\n')
         os.remove(os.path.join(self.folder, 'scheme'))
         self.assertIn('byte 0: record 1 (head) is cut', self.command('run', '.', '--program', REFERENCE))
+
+    def test_output_full_or_closed(self):
+        self.command('write', '.')
+        for words, done in ((('write', '.'), '; both files are written'), (('run', '.', '--program', REFERENCE), ''),
+                            (('--help',), ''), (('run', '--help'), '')):
+            with open('/dev/full', 'w') as full:
+                self.assertEqual(self.command(*words, status=1, stdout=full), 'the output: No space left on device%s\n' % done)
+            reader, writer = os.pipe()
+            os.close(reader)
+            with os.fdopen(writer) as pipe:
+                told = self.command(*words, status=1, stdout=pipe)
+            self.assertEqual(told, 'the output: Broken pipe%s\n' % done if done else '')
+            self.assertEqual(self.command(*words, status=1, before=('sh', '-c', 'exec "$@" >&-', 'sh')),
+                             'the output is closed%s\n' % done)
+
+    def link(self, name, target='/dev/zero'):
+        path = os.path.join(self.folder, name)
+        if os.path.lexists(path):
+            os.remove(path)
+        os.symlink(target, path)
+
+    def test_endless_files(self):
+        for name in ('scheme.txt', 'requests.txt'):
+            kept = content(self.folder, name)
+            self.link(name)
+            self.assertEqual(self.command('write', '.', status=1), './%s: more than 16777216 bytes are no text\n' % name)
+            os.remove(os.path.join(self.folder, name))
+            self.put(name, kept)
+        self.command('write', '.')
+        self.link('requests')
+        self.assertIn('write them first', self.command('run', '.', '--program', REFERENCE, status=1))
+        os.remove(os.path.join(self.folder, 'scheme.txt'))
+        self.assertEqual(self.command('run', '.', '--program', REFERENCE),
+                         '0  the log  15  refused: more than 16384 bytes, nothing is run\n')
+        self.assertEqual(self.command('read', '.', status=1),
+                         './requests: more than 65536 bytes: the log program answers 15, and no text is written\n')
+        self.link('scheme')
+        told = 'byte 0: record 1 (head) gives its body 0 bytes, and it has 6\n'
+        self.assertIn(told, self.command('run', '.', '--program', REFERENCE))
+        self.assertIn(told, self.command('read', '.', status=1))
+
+    def test_pipes(self):
+        for name, data in (('scheme', ref.standard_scheme(4)), ('requests', content(EXAMPLES, 'standard', 'requests'))):
+            os.remove(os.path.join(self.folder, name + '.txt'))
+            os.mkfifo(os.path.join(self.folder, name))
+            self.put(name + '.bytes', data)
+        feed = 'cat scheme.bytes %s > scheme & cat requests.bytes > requests & exec "$@"'
+        for more, told in (('', '16  view 2 0 item-1'), ('/dev/zero', 'byte 150: bytes follow the fifth record')):
+            self.assertIn(told, self.command('run', '.', '--program', REFERENCE, before=('sh', '-c', feed % more, 'sh')))
+
+    def test_both_files_or_none(self):
+        self.put('requests.txt', 30 * b'find 0 1\n')       # 240 bytes, and the scheme has 150
+        self.assertEqual(self.command('write', '.', status=1, file_size=200), '.: File too large; nothing is written\n')
+        self.assertEqual(sorted(os.listdir(self.folder)), ['requests.txt', 'scheme.txt'])
+        os.mkdir(os.path.join(self.folder, 'requests'))
+        told = './requests is no plain file that can be written; nothing is written\n'
+        self.assertEqual(self.command('write', '.', status=1), told)
+        self.assertEqual(sorted(os.listdir(self.folder)), ['requests', 'requests.txt', 'scheme.txt'])
+        os.rmdir(os.path.join(self.folder, 'requests'))
+        self.assertEqual(self.command('write', '.').count('bytes'), 2)
+        self.assertEqual(len(content(self.folder, 'requests')), 240)
+        os.chmod(os.path.join(self.folder, 'scheme'), 0o600)
+        self.command('write', '.')
+        self.assertEqual(os.stat(os.path.join(self.folder, 'scheme')).st_mode & 0o777, 0o600)
+
+    def test_second_file_cannot_take_its_place(self):
+        replace = os.replace
+
+        def refusing(source, target):
+            if os.path.basename(source) == 'requests':
+                raise OSError(16, 'Device or resource busy')
+            replace(source, target)
+
+        for before in ({}, {'scheme': b'old', 'requests': b'older'}):
+            for name, data in before.items():
+                self.put(name, data)
+            with mock.patch('os.replace', refusing), self.assertRaisesRegex(commands.Stop, 'busy; nothing is written'):
+                commands.write(self.folder)
+            files = {name: content(self.folder, name) for name in os.listdir(self.folder) if not name.endswith('.txt')}
+            self.assertEqual(files, before)
+
+    def test_control_bytes_of_programs_and_folders(self):
+        self.command('write', '.')
+        self.put('program', b"#!/bin/sh\nprintf '\\033[2J%s\\n'\n" % (5000 * b'x'), executable=True)
+        self.assertEqual(self.command('run', '.', '--program', 'program', status=1),
+                         "the log program printed '\\x1b[2J%s..', which is not a line of numbers\n" % (76 * 'x'))
+        self.put('program', b"#!/bin/sh\nprintf '\\007' >&2\nexit 3\n", executable=True)
+        self.assertEqual(self.command('run', '.', '--program', 'program', status=1),
+                         'the log program ended with status 3: \\x07\n')
+        self.assertIn('unrecognized arguments: \\x1b[2J\n', self.command('write', '.', '\x1b[2J', status=2))
+        folder = os.path.join(self.folder, 'a\x1b\nb\udcff')
+        os.mkdir(folder)
+        self.assertIn('b\\udcff/scheme.txt: No such file', self.command('write', folder, status=1))
+        self.assertIn('a\\x1b\\nb', self.command('write', folder, status=1))
+        for name in ('scheme.txt', 'requests.txt'):
+            shutil.copy(os.path.join(self.folder, name), folder)
+        self.assertIn('a\\x1b\\nb\\udcff/scheme: 150 bytes', self.command('write', folder))
+
+    def test_help_tells_the_default(self):
+        told = 'the policy of its list whose line `policy NAME: ..` stands first'
+        self.assertIn(told, self.command('--help'))
 
     def test_longest_log(self):
         self.put('program', b"#!/bin/sh\nprintf '0 15\\n'\n", executable=True)
