@@ -1,2 +1,3 @@
 mod Starting
 mod FirstStep
+pub mod Once

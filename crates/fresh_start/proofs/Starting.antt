@@ -6,7 +6,7 @@ use mathlib.Core.Logic.{inl, inr}
 use native.Mathlib.Nat.{mul-le-mul}
 use native.Mathlib.Omega.{arith}
 use lib.ListN.{length, drop, length-append}
-use lib.Seq.{take-at}
+use lib.Seq.{take-at, drop-at}
 use Rattle.model.specs.Answers.{Requirement, Answers}
 use Rattle.model.specs.SchemeBytes.{n, A, I, CountsFit, schemeOf, schemeNeeds, Accepted}
 use Rattle.model.specs.Network.{pairs, size}
@@ -38,22 +38,25 @@ module _ (b log : List ℕ) where
   unfolding later
   past-scheme {k} a p = behind (schemeNeeds b) ((15, length log ≤ 16384) ∷ []) k (granted-met (schemeNeeds b) (omega arith) a) p
 
-  pub not-read : {x : Reading} {k r : ℕ} (net : List ℕ) → x ≡ NotRead k → Checked b x → r ≡ numberOf x → Started b log (Refused r) net
+  pub not-read : {x : Reading} {k r : ℕ} (net : List ℕ) → x ≡ NotRead k → Checked b x → r ≡ numberOf x → Started b log net (Refused r) net
   unfolding later
   not-read {x} {k} {r} net e h m =
       let c : Checked b (NotRead k) = rw e at h in
       let q : r ≡ k = rw e at m in
-      rw q (ahead (schemeNeeds b) later k (c .1) (c .0), c .1)
+      rw q (ahead (schemeNeeds b) later k (c .1) (c .0), c .1, refl)
 
-  pub log-too-long : (net : List ℕ) → Accepted b → 16384 < length log → Started b log (Refused 15) net
+  pub log-too-long : (net : List ℕ) → Accepted b → 16384 < length log → Started b log net (Refused 15) net
   unfolding later
-  log-too-long net a l = (past-scheme a (inl ((λ h. omega arith), refl)), omega arith)
+  log-too-long net a l = (past-scheme a (inl ((λ h. omega arith), refl)), omega arith, refl)
 
   pub made-fresh : {part after : List ℕ} {count k : ℕ} (net : List ℕ) → Accepted b → length log ≤ 16384 → count ≡ size (schemeOf b) → length part ≡ count
       → Freshened b part k after → length after ≡ count
-      → Started b log (FreshOf count) (after ++ drop count net)
+      → Started b log net (FreshOf count) (after ++ drop count net)
   unfolding later
   made-fresh {part} {after} {count} {k} net a l e p f m =
       let granted : Answers (freshNeeds b part) 0 = behind (schemeNeeds b) ((5, length part ≡ size (schemeOf b)) ∷ []) 0 (granted-met (schemeNeeds b) (omega arith) a) (inr (p ∙ e, refl)) in
-      let made : Fresh b after = f .made (answers-unique (freshNeeds b part) k 0 (f .answered) granted) in
-      (past-scheme a (inr (l, refl)), omega (arith, m, length-append after (drop count net)), rw (take-at after (drop count net) count m) made)
+      let made : Fresh b after = f .made (answers-unique (freshNeeds b part) k 0 (f .answered) granted) in (
+        past-scheme a (inr (l, refl)),
+        rw (take-at after (drop count net) count m) made,
+        record { within = omega (arith, m, length-append after (drop count net)); behind = drop-at after (drop count net) count m },
+      )

@@ -1,7 +1,9 @@
 -- Where the log program stands, and its steps (document 01, "Log program").
 use Prim.Native.Nat.{ℕ, _≤_, _<_}
+use mathlib.Core.Path.{_≡_}
 use mathlib.Core.List.{List}
-use lib.ListN.{length, take}
+use lib.ListN.{take}
+use Rattle.model.specs.Calls.{FrontOnly}
 use Rattle.model.specs.Text.{State, start, running, over, Step}
 use Rattle.lines.specs.Put.{Put}
 use Rattle.fresh_start.specs.declared.Stand.{Stand}
@@ -26,9 +28,15 @@ Ready AtStart lent = 39296 ≤ lent
 Ready (At place position count) lent = (position < 65535) × (count ≤ lent)
 Ready Over lent = ⊥
 
+-- of the lent bytes only the network was written, and at the end nothing
+abbrev pub OnlyNetwork : Stand → List ℕ → List ℕ → Type 0
+OnlyNetwork AtStart net net' = net' ≡ net
+OnlyNetwork (At place position count) net net' = FrontOnly count net net'
+OnlyNetwork Over net net' = net' ≡ net
+
 -- one step was made, and its line put behind what was used of the buffer
 pub record Stepped (b log net old : List ℕ) (used : ℕ) (from : Stand) (to : Filled) (net' after : List ℕ) : Type 0 where
   pub line : List ℕ
   pub steps : Step b log (stateOf from net) line (stateOf (to .stand) net')
   pub put : Put old used line (to .used) after
-  pub sized : Sized (to .stand) (length net')
+  pub only : OnlyNetwork (to .stand) net net'

@@ -28,7 +28,7 @@ pub enum Start {
 // The scheme check, 15, and a fresh network at the front of the lent bytes.
 fn begin(scheme: &[u8], log: &[u8], network: &mut [u8]) -> Start
     requires { ⌜ 39296 ≤ length (now network) ⌝ }
-    ensures { λ r. ⌜ Started (now (scheme .entry)) (now (log .entry)) r (now (network .exit)) ⌝ }
+    ensures { λ r. ⌜ Started (now (scheme .entry)) (now (log .entry)) (now (network .entry)) r (now (network .exit)) ⌝ }
 {
     let reading = scheme::check(scheme);
     let Reading::Accepted(c) = reading else {

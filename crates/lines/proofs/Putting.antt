@@ -1,12 +1,12 @@
 -- Text upon text.
 use Prim.Native.Nat.{ℕ, zero, suc, _+_, _*_, _-_, _/_, _%_, _^_, _≤_, _<_}
-use mathlib.Core.Path.{_≡_, refl, sym, _∙_, ap}
+use mathlib.Core.Path.{_≡_, refl, sym, _∙_, ap, ap₂}
 use mathlib.Core.List.{List, [], _∷_, _++_, append-assoc, append-nil}
 use native.Mathlib.Numerals.{add-one, unary-clauses}
 use native.Mathlib.Omega.{arith}
 use native.Mathlib.Decide.{decLt}
 use lib.Pow.{pow-add}
-use lib.ListN.{length, getD, take, drop, set, length-set, length-append}
+use lib.ListN.{length, getD, take, drop, set, length-set, length-append, take-append-drop}
 use lib.Seq.{take-length, take-suc, take-suc-set, drop-set-lt, drop-drop}
 use borrow.Author.Tests.{lt-ltb, le-ltb}
 use Rattle.io.specs.Digits.{digits, Fewest}
@@ -37,6 +37,14 @@ put-then {a} {b} {c} {s} {t} {i} {j} {k} p q = record {
   where
     split : k ≡ j + (k - j)
     split = omega (arith, q .size)
+
+-- equal texts are put in one way
+pub put-once : {old s t x y : List ℕ} {at i j : ℕ} → s ≡ t → Put old at s i x → Put old at t j y → (i ≡ j) × (x ≡ y)
+put-once {old} {s} {t} {x} {y} {at} {i} {j} e p q =
+    let same : i ≡ j = p .size ∙ ap (λ (l : List ℕ). at + length l) e ∙ sym (q .size) in
+    let front : take i x ≡ take j y = p .front ∙ ap (λ (l : List ℕ). take at old ++ l) e ∙ sym (q .front) in
+    let behind : drop i x ≡ drop j y = p .behind ∙ ap (λ (k : ℕ). drop k old) same ∙ sym (q .behind) in
+    (same, sym (take-append-drop i x) ∙ ap₂ (λ (k l : List ℕ). k ++ l) front behind ∙ take-append-drop j y)
 
 power-pos : (k : ℕ) → 1 ≤ 10 ^ k
 power-pos zero = omega arith

@@ -18,16 +18,16 @@ use Rattle.model.proofs.Once.{called-once}
 use Rattle.model.proofs.Logging.{within, next-once}
 use Rattle.model.proofs.Overlong.{overlong, fits}
 
-request-is : {q q' : Request} → request q ≡ request q' → q ≡ q'
+pub request-is : {q q' : Request} → request q ≡ request q' → q ≡ q'
 request-is e = cc
 
-never : {A : Type 0} {q : Request} {number : ℕ} → request q ≡ refused number → A
+pub never : {A : Type 0} {q : Request} {number : ℕ} → request q ≡ refused number → A
 never e = let z : _≡_ {A = ℕ} 0 1 = cc in absurd (omega arith)
 
-not-ended : {A : Type 0} {q : Request} → request q ≡ ended → A
+pub not-ended : {A : Type 0} {q : Request} → request q ≡ ended → A
 not-ended e = let z : _≡_ {A = ℕ} 0 1 = cc in absurd (omega arith)
 
-not-both : {A : Type 0} {number : ℕ} → refused number ≡ ended → A
+pub not-both : {A : Type 0} {number : ℕ} → refused number ≡ ended → A
 not-both e = let z : _≡_ {A = ℕ} 0 1 = cc in absurd (omega arith)
 
 module _ (b log : List ℕ) where

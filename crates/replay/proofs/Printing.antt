@@ -15,6 +15,7 @@ use Rattle.replay.specs.declared.Outcome.{Outcome}
 use Rattle.replay.specs.declared.Outcome.the-variants.{Whole, Cut}
 use Rattle.replay.specs.Fills.{IsOver, Fills, Adds, Printed}
 use Rattle.replay.proofs.Ranking.{rank, prints-less}
+use Rattle.replay.proofs.Filling.{Filling, filling}
 
 -- what was handed over so far
 pub record Sent (b log net : List ℕ) (here : Stand) (written : ℕ) : Type 0 where
@@ -34,11 +35,14 @@ go-on b log net Start lent n s l = s
 go-on b log net (At place position count) lent n s (l, p, q) = (omega arith, s)
 go-on b log net Over lent n s l = absurd (n tt)
 
-module _ {b log net old net' after : List ℕ} {here : Stand} {to : Filled} {written : ℕ} (s : Sent b log net here written) (f : Fills b log net old here to net' after) (n : IsOver here → ⊥) (room : 1548 ≤ length old) where
+module _ {b log net old net' after : List ℕ} {here : Stand} {to : Filled} {written : ℕ} (s : Sent b log net here written) (fills : Fills b log net old here to net' after) (n : IsOver here → ⊥) (room : 1548 ≤ length old) where
+  f : Filling b log net old here to net' after
+  f = filling b log fills
+
   -- each buffer takes the program further
   pub fewer : rank b log (stateOf (to .stand) net') < rank b log (stateOf here net)
   fewer =
-      let m = f .moves (go-on b log net here (length net) n (s .sized) (bounded b log (s .count) start (stateOf here net) (s .text) tt (s .prints))) room in
+      let m = f .moves (go-on b log net here (length net) n (s .sized) (bounded b log (s .count) start (stateOf here net) (s .text) tt (s .prints)), room) in
       omega (arith, m, prints-less b log (f .count) (stateOf here net) (stateOf (to .stand) net') (take (to .used) after) (f .prints))
 
   pub sent-more : length after ≡ length old → length old ≤ 65536 → Sent b log net' (to .stand) (written + length (take (to .used) after))

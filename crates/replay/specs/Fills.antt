@@ -1,10 +1,10 @@
 -- Buffers filled with the log program's text, and what is written of them.
-use Prim.Native.Nat.{ℕ, _+_, _≤_, _<_}
+use Prim.Native.Nat.{ℕ, zero, suc, _+_, _≤_}
 use mathlib.Core.Path.{_≡_}
 use mathlib.Core.List.{List, [], _++_}
-use lib.ListN.{length, take, drop}
+use lib.ListN.{length, take}
 use Rattle.model.specs.Text.{State, start, Prints, TextFrom, Text, ReadOf}
-use Rattle.fresh_start.specs.Stands.{stateOf, Sized, Ready}
+use Rattle.fresh_start.specs.Stands.{stateOf, Ready, Stepped}
 use Rattle.fresh_start.specs.declared.Stand.{Stand}
 use Rattle.fresh_start.specs.declared.Stand.the-variants.{Start, At, Over}
 use Rattle.fresh_start.specs.declared.Filled.{Filled}
@@ -16,16 +16,35 @@ IsOver Start = ⊥
 IsOver (At place position count) = ⊥
 IsOver Over = Unit {0}
 
--- the front of the buffer is what the program prints from where it stood to where it stands, the rest is as it was; it stops only where
--- there is no next step or no room, and stands elsewhere if there was one
-pub record Fills (b log net old : List ℕ) (from : Stand) (to : Filled) (net' after : List ℕ) : Type 0 where
-  pub count : ℕ
-  pub prints : Prints b log count (stateOf from net) (take (to .used) after) (stateOf (to .stand) net')
-  pub fits : to .used ≤ length old
-  pub behind : drop (to .used) after ≡ drop (to .used) old
-  pub sized : Sized from (length net) → Sized (to .stand) (length net')
-  pub stops : Ready (to .stand) (length net) → length old < to .used + 1548
-  pub moves : Ready from (length net) → 1548 ≤ length old → 1 ≤ count
+-- where the program stands, and the bytes lent for the network and for the text
+pub record Moment : Type 0 where
+  pub filled : Filled
+  pub network : List ℕ
+  pub buffer : List ℕ
+
+-- before anything is put into the buffer
+abbrev pub unfilled : Stand → List ℕ → List ℕ → Moment
+unfilled from net old = record { filled = record { stand = from; used = 0 }; network = net; buffer = old }
+
+-- there is a next step, and room for a longest line
+abbrev pub Goes : Moment → Type 0
+Goes m = Ready (m .filled .stand) (length (m .network)) × (m .filled .used + 1548 ≤ length (m .buffer))
+
+module _ (b log : List ℕ) where
+  -- so many steps, each where the program goes on
+  abbrev pub Steps : ℕ → Moment → Moment → Type 0
+  Steps zero m n = m ≡ n
+  Steps (suc k) m n =
+      (at : Moment)
+      × Steps k m at
+      × Goes at
+      × Stepped b log (at .network) (at .buffer) (at .filled .used) (at .filled .stand) (n .filled) (n .network) (n .buffer)
+
+  -- from the front of the buffer on, as many steps as there are and surely fit
+  pub record Fills (net old : List ℕ) (from : Stand) (to : Filled) (net' after : List ℕ) : Type 0 where
+    pub count : ℕ
+    pub steps : Steps count (unfilled from net old) (record { filled = to; network = net'; buffer = after })
+    pub stops : Goes (record { filled = to; network = net'; buffer = after }) → ⊥
 
 -- what was written and the text from where it stands are the text from where it stood; at the start that is the whole text, at the end nothing
 abbrev pub Continued : Type 0

@@ -1,6 +1,5 @@
-use lib.ListN.{length}
 use denote.Ref.{now}
-use Rattle.record_call.proofs.Calling.{went}
+use Rattle.record_call.proofs.Calling.{went, last-line, no-line}
 use borrow.Author.Needs.{needs}
 use Rattle.record_call.proofs.play.Statement.{statement}
 use Rattle.record_call.proofs.play.Tie as tie
@@ -36,13 +35,13 @@ returns c =
 
 returns-2 : tie.Need-returns-2
 returns-2 c =
-    let lent = length (now (c .before .before .before .before .before .before .before .args .output)) in
-    rw (c .enum-told .given .1) at (c .before .before .next-at .ensures .says lent)
+    let a = c .before .before .before .before .before .before .before .args in
+    last-line (now (a .scheme)) (now (a .log)) (a .place) (now (a .network)) (now (a .output)) (c .enum-told .given .1) (c .before .before .next-at .ensures)
 
 returns-3 : tie.Need-returns-3
 returns-3 c =
-    let lent = length (now (c .before .before .before .before .before .before .before .args .output)) in
-    rw (c .enum-told2 .given .1) at (c .before .before .next-at .ensures .says lent)
+    let a = c .before .before .before .before .before .before .before .args in
+    no-line (now (a .scheme)) (now (a .log)) (a .place) (now (a .network)) (now (a .output)) (c .enum-told2 .given .1) (c .before .before .next-at .ensures)
 
 pub play-spec : {M : Type 1} → statement M
 play-spec =

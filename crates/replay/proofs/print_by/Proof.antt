@@ -9,6 +9,7 @@ use Rattle.model.proofs.Deciding.{refused, passed}
 use Rattle.fresh_start.specs.Stands.{stateOf}
 use Rattle.replay.specs.Fills.{IsOver}
 use Rattle.replay.proofs.Ranking.{rank}
+use Rattle.replay.proofs.Filling.{filling}
 use Rattle.replay.proofs.Printing.{Sent, sent-none, fewer, sent-more, whole, sent-cut, all-sent}
 use Rattle.replay.proofs.print_by.Statement.{statement}
 use Rattle.replay.proofs.print_by.Tie as tie
@@ -31,7 +32,7 @@ fill-requires : tie.Need-fill-requires Inv-loop μ-loop
 fill-requires c κs = tt
 
 slice-reshare-prefix-write : tie.Need-slice-reshare-prefix-write Inv-loop μ-loop
-slice-reshare-prefix-write c = omega (arith, c .before .before .before .before .fill .ensures .fits, c .before .before .before .before .fill .kept .1 .1 .1 .0)
+slice-reshare-prefix-write c = omega (arith, filling _ _ (c .before .before .before .before .fill .ensures) .fits, c .before .before .before .before .fill .kept .1 .1 .1 .0)
 
 slice-aggregate-write : tie.Need-slice-aggregate-write Inv-loop μ-loop
 slice-aggregate-write c = sym (length-take-le _ _ (slice-reshare-prefix-write (c .before)))

@@ -81,7 +81,7 @@ returns-2 : tie.Need-returns-2
 returns-2 c =
     let a = c .before .before .before .before .before .before .before .before .before .before .before .before .before .before .before .before .before .before .args in
     let p = c .before .before .before .before .before .before .before .before .before .before .play in
-    step-last (now (a .scheme)) (now (a .log)) (now (a .network)) (now (a .buffer)) (a .used) (a .place) (a .position) (a .size) (c .before .before .before .before .before .before .before .before .before .before .before .before .before .places .result) _ (p .last .1 .1 .1 .0) (p .last .1 .1 .1 .1 .0) (c .before .before .before .before .before .before .before .before .before .before .before .before .before .places .ensures) (p .ensures) _ _ _ (c .before .before .before .before .before .enum-told .given .1) (c .before .before .put-line2 .ensures .0)
+    step-last (now (a .scheme)) (now (a .log)) (now (a .network)) (now (a .buffer)) (a .used) (a .place) (a .position) (a .size) (c .before .before .before .before .before .before .before .before .before .before .before .before .before .places .result) _ (p .last .1 .1 .1 .0) (p .last .1 .1 .1 .1 .0) (c .before .before .before .before .before .before .before .before .before .before .before .before .before .places .ensures) (p .ensures) _ _ (c .before .before .before .before .before .enum-told .given .1) (c .before .before .put-line2 .ensures .0)
 
 same-length-5 : tie.Need-same-length-5
 same-length-5 c = search needs
@@ -90,7 +90,7 @@ returns-3 : tie.Need-returns-3
 returns-3 c =
     let a = c .before .before .before .before .before .before .before .before .before .before .before .before .before .args in
     let p = c .before .before .before .before .before .play in
-    step-end (now (a .scheme)) (now (a .log)) (now (a .network)) (now (a .buffer)) (a .used) (a .place) (a .position) (a .size) (c .before .before .before .before .before .before .before .before .places .result) _ (p .last .1 .1 .1 .0) (p .last .1 .1 .1 .1 .0) (c .before .before .before .before .before .before .before .before .places .ensures) (p .ensures) _ (c .enum-told2 .given .1) (omega arith)
+    step-end (now (a .scheme)) (now (a .log)) (now (a .network)) (now (a .buffer)) (a .used) (a .place) (a .position) (a .size) (c .before .before .before .before .before .before .before .before .places .result) _ (p .last .1 .1 .1 .0) (p .last .1 .1 .1 .1 .0) (c .before .before .before .before .before .before .before .before .places .ensures) (p .ensures) (c .enum-told2 .given .1) (omega arith)
 
 pub run-record-spec : {M : Type 1} → statement M
 run-record-spec =
