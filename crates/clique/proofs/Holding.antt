@@ -14,9 +14,9 @@ use Rattle.sets.specs.Rows.{rowBit, FriendRow}
 use Rattle.sets.specs.Rows.{rowOf}
 use Rattle.clique.specs.Cliques.{Undirected, LargestClique}
 use Rattle.sets.specs.Sets.{Meet, Has, NotEmpty}
-use Rattle.clique.specs.Mutual.{Holds, RowsOf, Inside, TellsEach, CliqueSize}
+use Rattle.clique.specs.Mutual.{Holds, RowsOf, Inside, TellsEach, CliqueSize, FriendsOf}
 
-never : {b : Bool} → b ≡ true → b ≡ false → ⊥
+pub never : {b : Bool} → b ≡ true → b ≡ false → ⊥
 never t f = let z : _≡_ {A = ℕ} 0 1 = cc in omega arith
 
 both : (a b : Bool) → (a && b) ≡ true → (a ≡ true) × (b ≡ true)
@@ -71,6 +71,18 @@ module _ {g : Graph} {set : List ℕ} {from : ℕ} where
       later y i (yes d) = absurd (n (rw d at i))
       later y i (no d) = omega (arith, h .inside y i .1)
 
+  holds-past : {j n : ℕ} → Holds g set from j → ((k : ℕ) → from ≤ k → k < n → rowBit set k ≡ false) → Holds g set n j
+  holds-past {n = n} h e = record {
+    list = h .list;
+    long = h .long;
+    friends = h .friends;
+    inside = λ y i. let (k, l) = h .inside y i in (k, later y k l (decLt y n));
+  }
+    where
+      later : (y : ℕ) → Has set y → from ≤ y → Dec (y < n) → n ≤ y
+      later y k l (yes d) = absurd (never k (e y l d))
+      later y k l (no d) = omega arith
+
 -- m's row has members only: others, and friends of m
 row-inside : {g : Graph} {m : ℕ} {row : List ℕ} → FriendRow g m row → Inside g row
 row-inside {g} r y h = go (decLt y (g .members))
@@ -120,11 +132,9 @@ pub left-all : {rows set : List ℕ} {from j : ℕ} → Left rows set from j fro
 left-all = record { left = λ g r i h. h }
 
 module _ {rows set : List ℕ} {from j m : ℕ} where
-  -- the set has not m
-  pub left-past : rowBit set m ≡ false → Left rows set from j m → Left rows set from j (m + 1)
-  left-past n l = record {
-    left = λ g r i h. let k = l .left g r i h in holds-next k (λ a. never (k .inside m a .0) n);
-  }
+  -- the set has none from m to before n
+  pub left-past : {n : ℕ} → ((k : ℕ) → m ≤ k → k < n → rowBit set k ≡ false) → Left rows set from j m → Left rows set from j n
+  left-past {n} e l = record { left = λ g r i h. holds-past (l .left g r i h) e }
 
   pub left-none : 256 ≤ m → Left rows set from (suc j) m → TellsEach rows set from (suc j) false
   left-none b l = record {
@@ -169,6 +179,32 @@ some-member {set} {t} e rows from = record {
     first : (l : List ℕ) → length l ≡ 1 → AllIn set from l → (m : ℕ) × Has set m
     first [] e i = absurd (omega arith)
     first (x ∷ l) e i = (x, i x (inl refl) .0)
+
+-- two members: one that is a friend of another
+pub pair : {rows set all both : List ℕ} {from m : ℕ} {t : Bool} → Left rows set from 2 m → FriendsOf rows set m 256 all → Meet all set both → NotEmpty both t → TellsEach rows set from 2 t
+pair {rows} {set} {all} {both} {from} {m} {t} l f c e = record {
+  tells = λ g r i. record {
+    sound = λ d.
+        let (y, h) = e .tells .0 d in
+        let (a, b) = in-both c y h in
+        let (x, k, n) = f .only y a in
+        let o = row-others (r .few) (r .undirected) (r .each x (i x k)) y n in
+        record {
+          list = x ∷ y ∷ [];
+          long = refl;
+          friends = (i x k, (o .0, o .1, tt), (i y b, tt, tt));
+          inside = λ z q. ⊎-elim (λ p. (rw p k, omega arith)) (λ p. ⊎-elim (λ s. (rw s b, omega arith)) (λ s. absurd s) p) q;
+        };
+    complete = λ h. let k = l .left g r i h in e .tells .1 (two g r i (k .list) (k .long) (k .friends) (k .inside));
+  };
+}
+  where
+    two : (g : Graph) → RowsOf g rows → Inside g set → (l : List ℕ) → length l ≡ 2 → Mutual g l → AllIn set m l → (y : ℕ) × Has both y
+    two g r i [] e k a = absurd (omega arith)
+    two g r i (x ∷ []) e k a = absurd (omega arith)
+    two g r i (x ∷ y ∷ l) e (b, (o, s, v), (d, w, z)) a =
+        let (h, n) = a x (inl refl) in
+        (y, both-in c y (f .each x y n (omega (arith, r .few)) h (r .each x b .bits y (omega (arith, r .few)) ∙ s)) (a y (inr (inl refl)) .0))
 
 -- ---- cliques
 

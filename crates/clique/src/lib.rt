@@ -1,24 +1,54 @@
 // Cliques (document 01, "Policies", kind 5).
 ghost use mathlib.Core.Path.{_≡_};
-ghost use Prim.Native.Nat.{_<_};
+ghost use mathlib.Core.Bool.{true};
+ghost use Prim.Native.Nat.{ℕ, _+_, _<_};
 ghost use lib.ListN.{length};
-ghost use Rattle.clique.specs.Mutual.{TellsEach, CliqueSize};
+ghost use Rattle.model.specs.Bytes.{bit};
+ghost use Rattle.clique.specs.Mutual.{TellsEach, CliqueSize, RowsJoined, FriendsOf};
 
-// Whether a set has two friends; the first is not looked for below from.
+// The members found, and all friends of the members m + q, for each bit q of a word.
+fn join_rows(rows: &[u64], m: usize, word: u64, found: [u64; 4]) -> [u64; 4]
+    requires { ⌜ (length (now rows) ≡ 1024) × ((q : ℕ) → bit word q ≡ true → m + q < 256) ⌝ }
+    ensures { λ r. ⌜ RowsJoined (now (rows .entry)) m (λ q. bit word q ≡ true) found r ⌝ }
+{
+    let mut all = found;
+    let mut left = word;
+    while left != 0 {
+        let more = sets::join(all, sets::row(rows, m + u64::trailing_zeros(left) as usize));
+        all = more;
+        left = left & (left - 1);
+    }
+    all
+}
+
+// All friends of the members of a set that are not below from.
+fn all_friends(rows: &[u64], set: [u64; 4], from: usize) -> [u64; 4]
+    requires { ⌜ length (now rows) ≡ 1024 ⌝ }
+    ensures { λ r. ⌜ FriendsOf (now (rows .entry)) set from 256 r ⌝ }
+{
+    let mut all = [0u64; 4];
+    let mut m = from;
+    while m < 256 {
+        let more = join_rows(rows, m, sets::rest(set, m), all);
+        all = more;
+        m = m / 64 * 64 + 64;
+    }
+    all
+}
+
+// Whether a set has two friends; the first is not looked for below from. One member is tried by itself, all others at once.
 fn has_pair(rows: &[u64], set: [u64; 4], from: usize) -> bool
     requires { ⌜ length (now rows) ≡ 1024 ⌝ }
     ensures { λ r. ⌜ TellsEach (now (rows .entry)) set from 2 r ⌝ }
 {
-    let mut m = from;
-    while m < 256 {
-        if sets::has(set, m) {
-            if sets::not_empty(sets::meet(sets::row(rows, m), set)) {
-                return true;
-            }
-        }
-        m += 1;
+    let m = sets::first_from(set, from);
+    if m >= 256 {
+        return false;
     }
-    false
+    if sets::not_empty(sets::meet(sets::row(rows, m), set)) {
+        return true;
+    }
+    sets::not_empty(sets::meet(all_friends(rows, set, m + 1), set))
 }
 
 // Whether a set has three friends of each other. Those already tried are not looked for again.
@@ -26,14 +56,12 @@ fn has_triangle(rows: &[u64], set: [u64; 4]) -> bool
     requires { ⌜ length (now rows) ≡ 1024 ⌝ }
     ensures { λ r. ⌜ TellsEach (now (rows .entry)) set 0 3 r ⌝ }
 {
-    let mut m: usize = 0;
+    let mut m = sets::first_from(set, 0);
     while m < 256 {
-        if sets::has(set, m) {
-            if has_pair(rows, sets::meet(sets::row(rows, m), set), m + 1) {
-                return true;
-            }
+        if has_pair(rows, sets::meet(sets::row(rows, m), set), m + 1) {
+            return true;
         }
-        m += 1;
+        m = sets::first_from(set, m + 1);
     }
     false
 }

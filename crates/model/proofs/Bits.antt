@@ -1,7 +1,7 @@
 -- The laws of `digit x p = x / 2 ^ p % 2` over the machine's operations, and of the lowest bit.
 use mathlib.Core.Path.{_≡_, refl, sym, ap, ap₂, _∙_, subst}
-use mathlib.Core.Bool.{Bool, true, false, cond, _&&_, and-false}
-use Prim.Native.Nat.{ℕ, zero, suc, _+_, _*_, _/_, _%_, _^_, _≤_, _<_, min, max}
+use mathlib.Core.Bool.{Bool, true, false, cond, _&&_, _||_, and-false, or-true}
+use Prim.Native.Nat.{ℕ, zero, suc, _+_, _-_, _*_, _/_, _%_, _^_, _≤_, _<_, min, max}
 use native.Mathlib.Nat.{zero-div, mul-assoc, le-dest, div-one, div-div-eq-div-mul, pow-succ', pow-zero, two-pow-succ, div-eq-of-lt, mod-lt, zero-lt-suc, not-suc-le-zero, le-of-suc-le-suc, div-lt-iff-lt-mul, div-le-self, pow-suc, div-add-mod'}
 use native.Mathlib.Decide.{ℕ-discrete, decLt}
 use native.Mathlib.Omega.{arith}
@@ -9,7 +9,7 @@ use borrow.Author.Tests.{eq-eqb, ne-eqb, eqb-true, eqb-false}
 use lib.Arith.{digits-mod, lt-one}
 use lib.Bits.{shifted-even, bitAnd, bitOr, and-step, or-step, and-shr, or-shr, and-mask}
 use lib.Count.{trailingZeros, under}
-use lib.Dec.{lit<}
+use lib.Dec.{eqb, lit<}
 use lib.Pow.{shl-exact, pow-pos, pow-add, pow-lt, pow-mono, shl-shr}
 use Rattle.model.specs.Bytes.{digit, bit, NoBitFrom}
 use Rattle.model.specs.Scheme.{lowestFrom, lowest}
@@ -74,6 +74,18 @@ bit-and x y p = go (ℕ-discrete (digit x p) 1) (ℕ-discrete (digit y p) 1)
     go (yes a) (no b) = bit-no (bitAnd x y) p (omega (arith, d, digit-lt y p)) ∙ sym (rw (bit-no y p (omega (arith, digit-lt y p))) (and-false (bit x p)))
     go (no a) b = bit-no (bitAnd x y) p (omega (arith, d, digit-lt x p)) ∙ sym (rw (bit-no x p (omega (arith, digit-lt x p))))
 
+-- `a | b`, bit by bit
+pub bit-or : (x y p : ℕ) → bit (bitOr x y) p ≡ (bit x p || bit y p)
+bit-or x y p = go (ℕ-discrete (digit x p) 1) (ℕ-discrete (digit y p) 1)
+  where
+    d : digit (bitOr x y) p ≡ max (digit x p) (digit y p)
+    d = digit-or x y p
+
+    go : Dec (digit x p ≡ 1) → Dec (digit y p ≡ 1) → bit (bitOr x y) p ≡ (bit x p || bit y p)
+    go (yes a) b = bit-yes (bitOr x y) p (omega (arith, d, digit-lt y p)) ∙ sym (rw (bit-yes x p a))
+    go (no a) (yes b) = bit-yes (bitOr x y) p (omega (arith, d, digit-lt x p)) ∙ sym (rw (bit-yes y p b) (or-true (bit x p)))
+    go (no a) (no b) = bit-no (bitOr x y) p (omega (arith, d, digit-lt x p, digit-lt y p)) ∙ sym (rw (bit-no x p (omega (arith, digit-lt x p)), bit-no y p (omega (arith, digit-lt y p))))
+
 -- ---- one digit set: `w | (1 << m)`
 
 pub digit-pow-same : (m : ℕ) → digit (1 * 2 ^ m) m ≡ 1
@@ -123,6 +135,10 @@ some-bit (suc n) x a b = go (ℕ-discrete (x % 2) 1) (λ h k. some-bit n (x / 2)
 pub below-no-bit : (p x : ℕ) → x < 2 ^ p → NoBitFrom p x
 below-no-bit p x h q l = let m : 2 ^ p ≤ 2 ^ q = pow-mono l in bit-no x q (digit-above q (omega arith))
 
+-- digit q of `x >> p`
+pub digit-shr : (x p q : ℕ) → digit (x / 2 ^ p) q ≡ digit x (p + q)
+digit-shr x p q = ap (λ (y : ℕ). y % 2) (div-div-eq-div-mul x (2 ^ p) (2 ^ q) ∙ ap (λ (y : ℕ). x / y) (sym (pow-add 2 p q)))
+
 -- `x >> p` is 0 exactly where x has no bit at or above p; x has n digits
 pub shr-zero : (p x : ℕ) → x / 2 ^ p ≡ 0 → NoBitFrom p x
 shr-zero p x e q l =
@@ -132,11 +148,8 @@ shr-zero p x e q l =
 pub zero-shr : (n p x : ℕ) → x < 2 ^ n → NoBitFrom p x → x / 2 ^ p ≡ 0
 zero-shr n p x b h = go (ℕ-discrete (x / 2 ^ p) 0)
   where
-    shifted : (q : ℕ) → digit (x / 2 ^ p) q ≡ digit x (p + q)
-    shifted q = ap (λ (y : ℕ). y % 2) (div-div-eq-div-mul x (2 ^ p) (2 ^ q) ∙ ap (λ (y : ℕ). x / y) (sym (pow-add 2 p q)))
-
     found : ((q : ℕ) × (q < n) × (bit (x / 2 ^ p) q ≡ true)) → ⊥
-    found (q, k, e) = omega (arith, sym (shifted q) ∙ yes-bit (x / 2 ^ p) q e, no-bit x (p + q) (h (p + q) (omega arith)))
+    found (q, k, e) = omega (arith, sym (digit-shr x p q) ∙ yes-bit (x / 2 ^ p) q e, no-bit x (p + q) (h (p + q) (omega arith)))
 
     go : Dec (x / 2 ^ p ≡ 0) → x / 2 ^ p ≡ 0
     go (yes e) = e
@@ -220,12 +233,12 @@ pub set-ext : (k x y : ℕ) → NoBitFrom k x → NoBitFrom k y → ((p : ℕ) �
 set-ext k x y n m h = digit-ext k x y (no-bit-below k x n) (no-bit-below k y m) (λ p l. same-digit x y p (bit y p) (h p l) refl)
 
 -- q is the lowest place with digit 1
-record Lowest (x k q : ℕ) : Type 0 where
-  small : q < k
-  here : digit x q ≡ 1
-  below : (j : ℕ) → j < q → digit x j ≡ 0
+pub record Lowest (x k q : ℕ) : Type 0 where
+  pub small : q < k
+  pub here : digit x q ≡ 1
+  pub below : (j : ℕ) → j < q → digit x j ≡ 0
 
-trailing : (k x : ℕ) → 0 < x → x < 2 ^ k → Lowest x k (trailingZeros k x)
+pub trailing : (k x : ℕ) → 0 < x → x < 2 ^ k → Lowest x k (trailingZeros k x)
 unfolding trailingZeros
 trailing zero x p h = absurd (not-suc-le-zero (subst (λ (y : ℕ). 0 < y) (lt-one h) p))
 trailing (suc k) x p h = go (x % 2) refl (λ q. trailing k (x / 2) q (half-lt k h))
@@ -249,3 +262,29 @@ pub lowest-trailing : (x : ℕ) → 1 ≤ x → x < 2 ^ 32 → (trailingZeros 32
 lowest-trailing x a b =
     let t = trailing 32 x a b in
     (sym (lowest-is x (trailingZeros 32 x) (t .small) (bit-yes x (trailingZeros 32 x) (t .here)) (λ k l. bit-no x k (t .below k l))), t .small)
+
+-- x - 1 has 0 at x's lowest digit 1, and x's digits above it
+pred-digit : (x z q : ℕ) → digit x z ≡ 1 → ((j : ℕ) → j < z → digit x j ≡ 0) → z ≤ q → (q ≡ z → digit (x - 1) q ≡ 0) × (z < q → digit (x - 1) q ≡ digit x q)
+pred-digit x zero zero h b l = (λ e. digit-zero (x - 1) ∙ omega (arith, digit-zero x), λ k. absurd (omega arith))
+pred-digit x zero (suc q) h b l =
+    let half : (x - 1) / 2 ≡ x / 2 = omega (arith, digit-zero x) in
+    (λ e. absurd (omega arith), λ k. digit-suc (x - 1) q ∙ ap (λ (y : ℕ). digit y q) half ∙ sym (digit-suc x q))
+pred-digit x (suc z) zero h b l = absurd (omega arith)
+pred-digit x (suc z) (suc q) h b l =
+    let even : x % 2 ≡ 0 = sym (digit-zero x) ∙ b 0 (omega arith) in
+    let half : (x - 1) / 2 ≡ x / 2 - 1 = omega arith in
+    let (same, other) = pred-digit (x / 2) z q (sym (digit-suc x z) ∙ h) (λ j k. sym (digit-suc x j) ∙ b (suc j) (omega arith)) (omega arith) in
+    let d : digit (x - 1) (suc q) ≡ digit (x / 2 - 1) q = digit-suc (x - 1) q ∙ ap (λ (y : ℕ). digit y q) half in
+    (λ e. d ∙ same (omega arith), λ k. d ∙ other (omega arith) ∙ sym (digit-suc x q))
+
+-- `x & (x - 1)` is x without its lowest bit
+module _ {x k z : ℕ} (t : Lowest x k z) where
+  pub cleared-here : bit (bitAnd x (x - 1)) z ≡ false
+  cleared-here = bit-no _ z (digit-and x (x - 1) z ∙ omega (arith, pred-digit x z z (t .here) (t .below) (omega arith) .0 refl))
+
+  pub cleared-else : (q : ℕ) → (q ≡ z → ⊥) → bit (bitAnd x (x - 1)) q ≡ bit x q
+  cleared-else q n = ap (λ (d : ℕ). eqb d 1) (digit-and x (x - 1) q ∙ go (decLt q z))
+    where
+      go : Dec (q < z) → min (digit x q) (digit (x - 1) q) ≡ digit x q
+      go (yes l) = omega (arith, t .below q l)
+      go (no l) = omega (arith, pred-digit x z q (t .here) (t .below) (omega arith) .1 (omega arith))

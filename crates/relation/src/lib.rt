@@ -87,12 +87,12 @@ fn five_at_once(scheme: &[u8], c: Summary, network: &[u8], u: usize, v: usize) -
 {
     let of_u = rows::friend_row(scheme, c, network, u);
     let common = sets::meet(of_u, rows::friend_row(scheme, c, network, v));
-    let a = sets::first(common);
+    let a = sets::first_from(common, 0);
     if a >= c.members {
         return false;
     }
     let with_a = sets::meet(rows::friend_row(scheme, c, network, a), common);
-    let b = sets::first(with_a);
+    let b = sets::first_from(with_a, 0);
     if b >= c.members {
         return false;
     }

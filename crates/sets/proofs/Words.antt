@@ -1,9 +1,9 @@
 -- Rows as four words.
-use Prim.Native.Nat.{ℕ, zero, suc, _+_, _*_, _/_, _%_, _^_, _≤_, _<_}
+use Prim.Native.Nat.{ℕ, zero, suc, _+_, _-_, _*_, _/_, _%_, _^_, _≤_, _<_}
 use mathlib.Core.Path.{_≡_, refl, sym, ap, _∙_}
-use mathlib.Core.Bool.{true, false, not, _&&_}
+use mathlib.Core.Bool.{Bool, true, false, not, _&&_, _||_}
 use mathlib.Core.List.{List, [], _∷_}
-use native.Mathlib.Decide.{ℕ-discrete}
+use native.Mathlib.Decide.{ℕ-discrete, decLt}
 use native.Mathlib.Omega.{arith}
 use borrow.Author.Tests.{eq-eqb, ne-eqb}
 use borrow.Kind.Array.{eInt, good-length}
@@ -14,13 +14,15 @@ use denote.Shadow.{shadow}
 use mir.Syntax.{w64}
 use mir.Val.{Val}
 use lib.Arith.{digits-div, digits-mod}
-use lib.Bits.{bitAnd, bitOr, or-add-and, and-le-l, and-le-r}
+use lib.Bits.{bitAnd, bitOr, and-mask, or-add-and, and-le-l, and-le-r}
+use lib.Count.{trailingZeros}
 use lib.Dec.{eqb}
 use lib.ListN.{length, getD, set, length-set, List·getD-eq-default}
 use lib.Seq.{ext-getD, getD-set-same, getD-set-other}
 use Rattle.model.specs.Bytes.{bit}
-use Rattle.model.proofs.Bits.{digit-of-zero, bit-no, bit-and, some-bit}
-use Rattle.sets.specs.Sets.{RowPut, Meet, Has, NotEmpty}
+use Rattle.model.proofs.Bits.{trailing, digit-zero, digit-of-zero, digit-shr, bit-yes, bit-no, bit-and, bit-or, bit-below, below-no-bit, some-bit}
+use Rattle.sets.specs.Rows.{rowBit}
+use Rattle.sets.specs.Sets.{RowPut, Meet, Join, Rest, FirstFrom, Has, NotEmpty}
 
 bit-of-zero : (p : ℕ) → bit 0 p ≡ false
 bit-of-zero p = bit-no 0 p (digit-of-zero p)
@@ -56,19 +58,84 @@ module _ {xs : List ℕ} (w : Words xs) where
 
 -- ---- the operations on sets
 
-pub meet-words : (a b : List ℕ) → Words a → Words b
-    → Meet a b (bitAnd (getD a 0 0) (getD b 0 0) ∷ bitAnd (getD a 1 0) (getD b 1 0) ∷ bitAnd (getD a 2 0) (getD b 2 0) ∷ bitAnd (getD a 3 0) (getD b 3 0) ∷ [])
-meet-words a b v w = record { bits = λ m. word (m / 64) (m % 64) }
-  where
-    r : List ℕ
-    r = bitAnd (getD a 0 0) (getD b 0 0) ∷ bitAnd (getD a 1 0) (getD b 1 0) ∷ bitAnd (getD a 2 0) (getD b 2 0) ∷ bitAnd (getD a 3 0) (getD b 3 0) ∷ []
+-- word by word, an operation that is one on bits
+module _ (a b : List ℕ) (v : Words a) (w : Words b) (on : ℕ → ℕ → ℕ) (f : Bool → Bool → Bool) (each : (x y p : ℕ) → bit (on x y) p ≡ f (bit x p) (bit y p)) (none : f false false ≡ false) where
+  abbrev byWord : List ℕ
+  byWord = on (getD a 0 0) (getD b 0 0) ∷ on (getD a 1 0) (getD b 1 0) ∷ on (getD a 2 0) (getD b 2 0) ∷ on (getD a 3 0) (getD b 3 0) ∷ []
 
-    word : (q p : ℕ) → bit (getD r q 0) p ≡ (bit (getD a q 0) p && bit (getD b q 0) p)
-    word zero p = bit-and (getD a 0 0) (getD b 0 0) p
-    word (suc zero) p = bit-and (getD a 1 0) (getD b 1 0) p
-    word (suc (suc zero)) p = bit-and (getD a 2 0) (getD b 2 0) p
-    word (suc (suc (suc zero))) p = bit-and (getD a 3 0) (getD b 3 0) p
-    word (suc (suc (suc (suc q)))) p = bit-of-zero p ∙ sym (rw (no-word v q, bit-of-zero p))
+  by-word : (q p : ℕ) → bit (getD byWord q 0) p ≡ f (bit (getD a q 0) p) (bit (getD b q 0) p)
+  by-word zero p = each (getD a 0 0) (getD b 0 0) p
+  by-word (suc zero) p = each (getD a 1 0) (getD b 1 0) p
+  by-word (suc (suc zero)) p = each (getD a 2 0) (getD b 2 0) p
+  by-word (suc (suc (suc zero))) p = each (getD a 3 0) (getD b 3 0) p
+  by-word (suc (suc (suc (suc q)))) p = bit-of-zero p ∙ sym (rw (no-word v q, no-word w q, bit-of-zero p) none)
+
+pub meet-words : (a b : List ℕ) (v : Words a) (w : Words b) → Meet a b (byWord a b v w bitAnd _&&_ bit-and refl)
+meet-words a b v w = record { bits = λ m. by-word a b v w bitAnd _&&_ bit-and refl (m / 64) (m % 64) }
+
+pub join-words : (a b : List ℕ) (v : Words a) (w : Words b) → Join a b (byWord a b v w bitOr _||_ bit-or refl)
+join-words a b v w = record { bits = λ m. by-word a b v w bitOr _||_ bit-or refl (m / 64) (m % 64) }
+
+-- `set[m / 64] >> (m % 64)`
+pub rest-word : (set : List ℕ) (m : ℕ) → Words set → Rest set m (getD set (m / 64) 0 / 2 ^ (m % 64))
+rest-word set m w = record {
+  bits = λ q h.
+      let d : (m + q) / 64 ≡ m / 64 = omega arith in
+      let e : (m + q) % 64 ≡ m % 64 + q = omega arith in
+      shifted q ∙ sym (rw (d, e));
+  ends = λ q h. bit-below (getD set (m / 64) 0) 64 (m % 64 + q) (below-no-bit 64 _ (w .fits (m / 64))) (sym (shifted q) ∙ h);
+}
+  where
+    shifted : (q : ℕ) → bit (getD set (m / 64) 0 / 2 ^ (m % 64)) q ≡ bit (getD set (m / 64) 0) (m % 64 + q)
+    shifted q = ap (λ (d : ℕ). eqb d 1) (digit-shr (getD set (m / 64) 0) (m % 64) q)
+
+-- `rest & 1 == 1`
+pub rest-has : (set : List ℕ) (m r : ℕ) → Rest set m r → eqb (bitAnd r 1) 1 ≡ rowBit set m
+rest-has set m r h =
+    let e : m + 0 ≡ m = omega arith in
+    ap (λ (d : ℕ). eqb d 1) (and-mask r 1 ∙ sym (digit-zero r)) ∙ rw e at (h .bits 0 (omega arith))
+
+-- the search for the first member at or above a number has come to m
+pub record Searched (set : List ℕ) (from m : ℕ) : Type 0 where
+  pub on : from ≤ m
+  pub none : (k : ℕ) → from ≤ k → k < m → rowBit set k ≡ false
+
+module _ {set : List ℕ} {from m word : ℕ} (s : Searched set from m) (r : Rest set m word) where
+  -- none from m on that are below m + z, nor before
+  further : (z : ℕ) → ((q : ℕ) → q < z → bit word q ≡ false) → m % 64 + z ≤ 64 → (k : ℕ) → from ≤ k → k < m + z → rowBit set k ≡ false
+  further z n l k a b = go (decLt k m)
+    where
+      go : Dec (k < m) → rowBit set k ≡ false
+      go (yes h) = s .none k a h
+      go (no h) =
+          let e : m + (k - m) ≡ k = omega arith in
+          rw e at (sym (r .bits (k - m) (omega arith)) ∙ n (k - m) (omega arith))
+
+  pub next-word : word ≡ 0 → Searched set from (m / 64 * 64 + 64)
+  next-word e = record {
+    on = omega (arith, s .on);
+    none =
+        let d : m + (64 - m % 64) ≡ m / 64 * 64 + 64 = omega arith in
+        rw d at (further (64 - m % 64) (λ q h. rw e (bit-of-zero q)) (omega arith));
+  }
+
+  -- the first member is at the word's lowest bit
+  pub first-here : m < 256 → (word ≡ 0 → ⊥) → word < 2 ^ 64 → (trailingZeros 64 word < 64) × FirstFrom set from (m + trailingZeros 64 word)
+  first-here h n f =
+      let t = trailing 64 word (omega arith) f in
+      let b : bit word (trailingZeros 64 word) ≡ true = bit-yes word _ (t .here) in
+      let l : m % 64 + trailingZeros 64 word < 64 = r .ends _ b in (
+        t .small,
+        record {
+          small = omega arith;
+          later = λ a. omega (arith, s .on);
+          here = λ a. sym (r .bits _ l) ∙ b;
+          none = further (trailingZeros 64 word) (λ q a. bit-no word q (t .below q a)) (omega arith);
+        },
+      )
+
+pub first-none : {set : List ℕ} {from m : ℕ} → Searched set from m → 256 ≤ m → FirstFrom set from 256
+first-none s h = record { small = omega arith; later = λ a. a; here = λ a. absurd (omega arith); none = λ k a b. s .none k a (omega arith) }
 
 -- `a | b` is 0 where both are
 or-zero : (a b : ℕ) → bitOr a b ≡ 0 → (a ≡ 0) × (b ≡ 0)

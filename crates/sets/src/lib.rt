@@ -1,12 +1,12 @@
 // Sets of members as 256 bits in four words, and a table of one for each member.
 ghost use mathlib.Core.Path.{_≡_};
-ghost use mathlib.Core.Bool.{false, _&&_};
-ghost use Prim.Native.Nat.{ℕ, _<_, _≤_};
+ghost use mathlib.Core.Bool.{_&&_};
+ghost use Prim.Native.Nat.{_<_, _≤_};
 ghost use lib.ListN.{length};
 ghost use Rattle.model.specs.Bytes.{bit};
 ghost use Rattle.model.specs.Graph.{count};
 ghost use Rattle.sets.specs.Rows.{rowBit, rowOf};
-ghost use Rattle.sets.specs.Sets.{RowPut, Meet, Has, NotEmpty, CommonBits};
+ghost use Rattle.sets.specs.Sets.{RowPut, Meet, Join, Rest, FirstFrom, NotEmpty, CommonBits};
 
 // The members of both sets.
 pub fn meet(a: [u64; 4], b: [u64; 4]) -> [u64; 4]
@@ -15,26 +15,42 @@ pub fn meet(a: [u64; 4], b: [u64; 4]) -> [u64; 4]
     [a[0] & b[0], a[1] & b[1], a[2] & b[2], a[3] & b[3]]
 }
 
+// The members of either set.
+pub fn join(a: [u64; 4], b: [u64; 4]) -> [u64; 4]
+    ensures { λ r. ⌜ Join a b r ⌝ }
+{
+    [a[0] | b[0], a[1] | b[1], a[2] | b[2], a[3] | b[3]]
+}
+
+// The members from m to the end of its word, m itself at bit 0.
+pub fn rest(set: [u64; 4], m: usize) -> u64
+    requires { ⌜ m < 256 ⌝ }
+    ensures { λ r. ⌜ Rest set m r ⌝ }
+{
+    set[m / 64] >> (m % 64)
+}
+
 // Whether a set has member m.
 pub fn has(set: [u64; 4], m: usize) -> bool
     requires { ⌜ m < 256 ⌝ }
     ensures { λ r. ⌜ r ≡ rowBit set m ⌝ }
 {
-    (set[m / 64] >> (m % 64)) & 1 == 1
+    rest(set, m) & 1 == 1
 }
 
-// The first member of a set, or 256.
-pub fn first(set: [u64; 4]) -> usize
-    ensures { λ r. ⌜ (r ≤ 256) × (r < 256 → Has set r) × ((m : ℕ) → m < r → rowBit set m ≡ false) ⌝ }
+// The first member at or above a number, or 256.
+pub fn first_from(set: [u64; 4], from: usize) -> usize
+    ensures { λ r. ⌜ FirstFrom set from r ⌝ }
 {
-    let mut m: usize = 0;
+    let mut m = from;
     while m < 256 {
-        if has(set, m) {
-            return m;
+        let word = rest(set, m);
+        if word != 0 {
+            return m + u64::trailing_zeros(word) as usize;
         }
-        m += 1;
+        m = m / 64 * 64 + 64;
     }
-    m
+    256
 }
 
 // Whether a set has a member.

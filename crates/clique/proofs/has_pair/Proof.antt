@@ -1,70 +1,71 @@
-use mathlib.Core.Logic.{⊎-elim}
-use mathlib.Core.Path.{sym, _∙_}
-use Prim.Native.Nat.{_+_, _-_}
+use Prim.Native.Nat.{_+_}
+use Rattle.clique.proofs.Holding.{left-all, left-past, left-none, left-tried, found, some-member, pair}
 use borrow.Author.Needs.{needs}
-use Rattle.clique.proofs.Holding.{Left, left-all, left-past, left-none, left-tried, found, some-member}
 use Rattle.clique.proofs.has_pair.Statement.{statement}
 use Rattle.clique.proofs.has_pair.Tie as tie
 
-abbrev Inv-loop : tie.InvT-loop
-Inv-loop rows set from m₀ m = Left rows set from 2 m
+first-from-requires : tie.Need-first-from-requires
+first-from-requires c κs = search needs
 
-abbrev μ-loop : tie.MeasureT-loop
-μ-loop rows set from m₀ m = 256 - m
+returns : tie.Need-returns
+returns c = left-none (c .if1 .taken) (left-past (c .before .first-from .ensures .none) left-all)
 
-loop-holds : tie.Need-loop-holds Inv-loop μ-loop
-loop-holds c = left-all
-
-has-requires : tie.Need-has-requires Inv-loop μ-loop
-has-requires c κs = search needs
-
-row-requires : tie.Need-row-requires Inv-loop μ-loop
+row-requires : tie.Need-row-requires
 row-requires c κs = search needs
 
-meet-requires : tie.Need-meet-requires Inv-loop μ-loop
+meet-requires : tie.Need-meet-requires
 meet-requires c κs = search needs
 
-not-empty-requires : tie.Need-not-empty-requires Inv-loop μ-loop
+not-empty-requires : tie.Need-not-empty-requires
 not-empty-requires c κs = search needs
 
-returns : tie.Need-returns Inv-loop μ-loop
-returns c =
-    let a = c .before .before .before .before .before .before .before .before .before .args in
-    found (a .rows .now) (a .set) (c .before .before .before .before .before .before .before .loop .m) (sym (c .before .before .before .before .before .has .ensures) ∙ c .before .before .before .before .if1 .taken) (rw (c .before .before .before .row .ensures) at (c .before .before .meet .ensures))
+returns-2 : tie.Need-returns-2
+returns-2 c =
+    let tried = c .before .before .before in
+    let first = tried .before .before in
+    let a = first .before .before .args in
+    found (a .rows .now) (a .set) (first .first-from .result) (first .first-from .ensures .here (tried .before .if1 .left)) (rw (tried .row .ensures) at (c .before .before .meet .ensures))
     (rw (c .if2 .taken) at (some-member (c .before .not-empty .ensures) (a .rows .now) 0))
 
-add-m : tie.Need-add-m Inv-loop μ-loop
-add-m c = search needs
+add-all-friends : tie.Need-add-all-friends
+add-all-friends c = search needs
 
-loop-less : tie.Need-loop-less Inv-loop μ-loop
-loop-less c = search needs
+all-friends-requires : tie.Need-all-friends-requires
+all-friends-requires c κs = search needs
 
-loop-again : tie.Need-loop-again Inv-loop μ-loop
-loop-again c =
-    let a = c .before .before .before .before .before .args in
-    let m = c .before .before .before .loop .m in
-    let h = c .before .has .ensures in
-    ⊎-elim
-    (λ w. left-tried (a .rows .now) (a .set) m (sym h ∙ w .0 .taken) (rw (w .1 .ensures) at (w .2 .ensures)) (rw (w .4 .left) at (some-member (w .3 .ensures) (a .rows .now) (m + 1))) (c .before .before .before .loop .inv))
-    (λ w. left-past (sym h ∙ w .left) (c .before .before .before .loop .inv))
-    (c .if1 .came)
+meet-requires-2 : tie.Need-meet-requires-2
+meet-requires-2 c κs = search needs
 
-returns-2 : tie.Need-returns-2 Inv-loop μ-loop
-returns-2 c = left-none (c .loop-test .left) (c .before .loop .inv)
+not-empty-requires-2 : tie.Need-not-empty-requires-2
+not-empty-requires-2 c κs = search needs
+
+returns-3 : tie.Need-returns-3
+returns-3 c =
+    let untried = c .before .before .before in
+    let tried = untried .before .before .before in
+    let first = tried .before .before in
+    let a = first .before .before .args in
+    let m = first .first-from .result in
+    pair
+    (left-tried (a .rows .now) (a .set) m (first .first-from .ensures .here (tried .before .if1 .left)) (rw (tried .row .ensures) at (untried .before .before .meet .ensures))
+    (rw (untried .if2 .left) at (some-member (untried .before .not-empty .ensures) (a .rows .now) (m + 1)))
+    (left-past (first .first-from .ensures .none) left-all))
+    (c .before .before .all-friends .ensures)
+    (c .before .meet2 .ensures)
+    (c .not-empty2 .ensures)
 
 pub has-pair-spec : {M : Type 1} → statement M
 has-pair-spec =
     tie.close
     (tie.spec
-    Inv-loop
-    μ-loop
-    loop-holds
-    has-requires
+    first-from-requires
+    returns
     row-requires
     meet-requires
     not-empty-requires
-    returns
-    add-m
-    loop-less
-    loop-again
-    returns-2)
+    returns-2
+    add-all-friends
+    all-friends-requires
+    meet-requires-2
+    not-empty-requires-2
+    returns-3)

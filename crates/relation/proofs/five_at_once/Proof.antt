@@ -19,8 +19,8 @@ friend-row-requires-2 c κs = search needs
 meet-requires : tie.Need-meet-requires
 meet-requires c κs = search needs
 
-first-requires : tie.Need-first-requires
-first-requires c κs = search needs
+first-from-requires : tie.Need-first-from-requires
+first-from-requires c κs = search needs
 
 returns : tie.Need-returns
 returns c = λ e. absurd (false≢true e)
@@ -31,8 +31,8 @@ friend-row-requires-3 c κs = search needs
 meet-requires-2 : tie.Need-meet-requires-2
 meet-requires-2 c κs = search needs
 
-first-requires-2 : tie.Need-first-requires-2
-first-requires-2 c κs = search needs
+first-from-requires-2 : tie.Need-first-from-requires-2
+first-from-requires-2 c κs = search needs
 
 returns-2 : tie.Need-returns-2
 returns-2 c = λ e. absurd (false≢true e)
@@ -61,10 +61,10 @@ returns-3 c =
     (common .before .before .friend-row .ensures)
     (common .before .friend-row2 .ensures)
     (common .meet .ensures)
-    (first .first .ensures .1 (omega (arith, range)))
+    (first .first-from .ensures .here (omega (arith, range)))
     (with-x .before .friend-row3 .ensures)
     (with-x .meet2 .ensures)
-    (second .before .first2 .ensures .1 (omega (arith, range, c .before .before .before .if2 .left)))
+    (second .before .first-from2 .ensures .here (omega (arith, range, c .before .before .before .if2 .left)))
     (c .before .before .friend-row4 .ensures)
     (c .before .meet3 .ensures)
     (rw e at (c .not-empty .ensures))
@@ -76,11 +76,11 @@ five-at-once-spec =
     friend-row-requires
     friend-row-requires-2
     meet-requires
-    first-requires
+    first-from-requires
     returns
     friend-row-requires-3
     meet-requires-2
-    first-requires-2
+    first-from-requires-2
     returns-2
     friend-row-requires-4
     meet-requires-3
