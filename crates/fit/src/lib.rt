@@ -1,31 +1,13 @@
 // The bytes inside a scheme's records (document 01, "Scheme", "Policies"; refusal 3 of the scheme check).
 use tables::Summary;
 ghost use mathlib.Core.Path.{_≡_};
-ghost use mathlib.Core.Logic.{_⊎_};
-ghost use Prim.Native.Nat.{ℕ, _+_, _*_, _<_, _≤_};
+ghost use mathlib.Core.Logic.{_↔_};
+ghost use Prim.Native.Nat.{ℕ, _+_, _*_, _%_, _<_, _≤_};
 ghost use lib.ListN.{length};
 ghost use Rattle.model.specs.Decides.{Decides};
 ghost use Rattle.model.specs.Bytes.{byte, four as fourAt, NoBitFrom};
 ghost use Rattle.model.specs.SchemeBytes.{Records, BytesFit, PolicyFits, MaskFits};
 ghost use Rattle.tables.specs.Read.{CountsOf, InRange};
-
-// Whether each of count bytes is below a limit or equal to one other byte.
-fn each_below(s: &[u8], from: usize, count: usize, limit: usize, other: usize) -> bool
-    requires { ⌜ from + count ≤ length (now s) ⌝ }
-    ensures { λ r. ⌜ Decides r ((k : ℕ) → k < count → (byte (now (s .entry)) (from + k) ≡ other) ⊎ (byte (now (s .entry)) (from + k) < limit)) ⌝ }
-{
-    let mut i: usize = 0;
-    while i < count {
-        let b = records::wide(s[from + i]);
-        if b >= limit {
-            if b != other {
-                return false;
-            }
-        }
-        i += 1;
-    }
-    true
-}
 
 // Whether a policy that names no other and no state has k in its range.
 fn alone_fits(k: u8, low: u8, high: u8, left: u8, right: u8) -> bool
@@ -98,30 +80,22 @@ fn policies_fit(s: &[u8], at: usize, count: usize, states: usize) -> bool
     true
 }
 
-// Whether a mask is not zero and has no bit at or above the number of policies.
-fn mask_fits(mask: u32, policies: usize) -> bool
-    requires { ⌜ policies ≤ 32 ⌝ }
-    ensures { λ r. ⌜ Decides r (MaskFits policies mask) ⌝ }
-{
-    if (mask as u64) >> policies != 0 {
-        return false;
-    }
-    mask != 0
-}
-
-// Whether each resource's mask fits.
+// Whether each resource's mask is not zero and has no bit at or above the number of policies.
 fn masks_fit(s: &[u8], at: usize, count: usize, policies: usize) -> bool
     requires { ⌜ (at + count * 4 ≤ length (now s)) × (count ≤ 26) × (policies ≤ 32) ⌝ }
     ensures { λ r. ⌜ Decides r ((k : ℕ) → k < count → MaskFits policies (fourAt (now (s .entry)) (at + k * 4))) ⌝ }
 {
+    let mut all: u32 = 0;
     let mut r: usize = 0;
     while r < count {
-        if !mask_fits(records::four(s, at + r * 4), policies) {
+        let mask = records::four(s, at + r * 4);
+        if mask == 0 {
             return false;
         }
+        all = all | mask;
         r += 1;
     }
-    true
+    (all as u64) >> policies == 0
 }
 
 // Whether each byte of kinds 2 to 5 is what is said of it.
@@ -133,10 +107,11 @@ pub fn bytes_fit(s: &[u8], c: Summary) -> bool
     let policies = tables::policies_at(c);
     let masks = tables::masks_at(c);
     let resources = tables::resources(c);
-    if !each_below(s, 14, marks - 18, c.states, 255) {
+    // a next state that is undefined, 255, is 0 when raised by 1
+    if records::wide(records::greatest(s, 14, marks - 18, 1)) > c.states {
         return false;
     }
-    if !each_below(s, marks, c.states, 2, 0) {
+    if records::greatest(s, marks, c.states, 0) > 1 {
         return false;
     }
     if !policies_fit(s, policies, c.policies, c.states) {

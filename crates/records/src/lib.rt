@@ -1,9 +1,10 @@
 // Numbers and records in bytes (document 01, "Scheme").
 ghost use mathlib.Core.Path.{_≡_};
-ghost use Prim.Native.Nat.{_+_, _<_, _≤_, _^_, min};
+ghost use mathlib.Core.Logic.{_↔_};
+ghost use Prim.Native.Nat.{ℕ, _+_, _%_, _<_, _≤_, _^_, min};
 ghost use lib.ListN.{length};
 ghost use Rattle.model.specs.Decides.{Decides};
-ghost use Rattle.model.specs.Bytes.{two as twoAt, four as fourAt, RecordAt};
+ghost use Rattle.model.specs.Bytes.{byte, two as twoAt, four as fourAt, RecordAt};
 
 // A byte as an index.
 pub fn wide(b: u8) -> usize
@@ -20,6 +21,23 @@ pub fn least(x: usize, y: usize) -> usize
         return x;
     }
     y
+}
+
+// The greatest of count bytes, each raised by a number modulo 256; 0 where there is none. No early exit: it becomes vector code.
+pub fn greatest(s: &[u8], from: usize, count: usize, raise: u8) -> u8
+    requires { ⌜ from + count ≤ length (now s) ⌝ }
+    ensures { λ r. ⌜ ((limit : ℕ) → (r ≤ limit) ↔ ((k : ℕ) → k < count → (byte (now (s .entry)) (from + k) + raise) % 256 ≤ limit)) ⌝ }
+{
+    let mut most: u8 = 0;
+    let mut i: usize = 0;
+    while i < count {
+        let b = std::num::wrapping_add_u8(s[from + i], raise);
+        i += 1;
+        if b > most {
+            most = b;
+        }
+    }
+    most
 }
 
 // The 2-byte number at a place.

@@ -1,1 +1,2 @@
+mod Choosing
 pub mod Validity

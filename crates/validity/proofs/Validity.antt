@@ -1,69 +1,20 @@
 -- What the validity check computes, over the bytes of a network.
-use Prim.Native.Nat.{ℕ, _+_, _*_, _/_, _%_, _^_, _<_, _≤_, min, max}
+use Prim.Native.Nat.{ℕ, _+_, _*_, _<_, _≤_}
 use mathlib.Core.Bool.{Bool, true}
 use mathlib.Core.List.{List}
-use mathlib.Core.Path.{_≡_, refl}
+use mathlib.Core.Path.{_≡_}
 use native.Mathlib.Omega.{arith}
-use borrow.Author.Count.{below-more}
-use lib.Bits.{bitAnd, and-le-l}
 use lib.ListN.{length}
-use Rattle.model.specs.Bytes.{byte, digit, bit}
+use Rattle.model.specs.Bytes.{byte, bit}
 use Rattle.model.specs.Decides.{Decides}
 use Rattle.model.specs.Network.{Valid, size, settingPlace, pairPlace, pairs}
 use Rattle.model.specs.SchemeBytes.{P, schemeOf}
-use Rattle.model.proofs.Bits.{and-odd, digit-lt, bit-yes, yes-bit, bit-below}
+use Rattle.model.proofs.Bits.{bit-below}
 use Rattle.model.proofs.Deciding.{Says, says, iff}
 use Rattle.model.proofs.Held.{held-state, held-setting}
 use Rattle.model.proofs.Places.{pair-onto, pair-before, setting-onto, setting-before}
 use Rattle.tables.specs.Read.{ReadAs}
 use Rattle.tables.specs.declared.Summary.{Summary}
-
--- ---- the greatest of the bytes from one place up to another
-
-pub record Greatest (s : List ℕ) (from to most : ℕ) : Type 0 where
-  pub above : (k : ℕ) → from ≤ k → k < to → byte s k ≤ most
-  pub least : (limit : ℕ) → 1 ≤ limit → ((k : ℕ) → from ≤ k → k < to → byte s k < limit) → most < limit
-
-pub greatest-none : (s : List ℕ) (from : ℕ) → Greatest s from from 0
-greatest-none s from = record { above = λ k a b. absurd (omega arith); least = λ limit a h. a }
-
-pub greatest-more : {s : List ℕ} {from i most new : ℕ} → from ≤ i → new ≡ max most (byte s i) → Greatest s from i most → Greatest s from (i + 1) new
-greatest-more {s} {from} {i} {most} {new} l e g = record {
-  above = λ k a b. below-more (λ (j : ℕ). from ≤ j → byte s j ≤ new) i (λ j d f. omega (arith, g .above j f d)) (λ f. omega arith) k b a;
-  least = λ limit a h.
-      let x : most < limit = g .least limit a (λ k d f. h k d (omega arith)) in
-      let y : byte s i < limit = h i l (omega arith) in
-      omega arith;
-}
-
--- ---- one resource's settings, a stride apart
-
--- all is 1 where the settings of the members below m are in the mask, and 0 where one is not
-pub record Column (s : List ℕ) (at stride mask m all : ℕ) : Type 0 where
-  pub small : all ≤ 1
-  pub sound : all ≡ 1 → (j : ℕ) → j < m → bit mask (byte s (at + j * stride)) ≡ true
-  pub whole : ((j : ℕ) → j < m → bit mask (byte s (at + j * stride)) ≡ true) → all ≡ 1
-
-pub column-none : (s : List ℕ) (at stride mask : ℕ) → Column s at stride mask 0 1
-column-none s at stride mask = record { small = omega arith; sound = λ e j h. absurd (omega arith); whole = λ h. refl }
-
-pub column-more : {s : List ℕ} {at stride mask m all k : ℕ} → k ≡ at + m * stride → byte s k < 32 → Column s at stride mask m all
-    → Column s at stride mask (m + 1) (bitAnd all (mask / 2 ^ (byte s k % 32)))
-column-more {s} {at} {stride} {mask} {m} {all} {k} e b g =
-    let q : byte s k % 32 ≡ byte s k = omega arith in
-    let a : bitAnd all (mask / 2 ^ byte s k) ≡ min all (digit mask (byte s k)) =
-    omega (arith, g .small, and-le-l all (mask / 2 ^ byte s k), and-odd all (mask / 2 ^ byte s k)) in
-    rw (q, a)
-    (record {
-      small = omega (arith, g .small);
-      sound = λ h.
-          below-more (λ (j : ℕ). bit mask (byte s (at + j * stride)) ≡ true) m (g .sound (omega (arith, g .small)))
-          (rw e at (bit-yes mask (byte s k) (omega (arith, digit-lt mask (byte s k)))));
-      whole = λ h.
-          let x : all ≡ 1 = g .whole (λ j l. h j (omega arith)) in
-          let y : digit mask (byte s k) ≡ 1 = yes-bit mask (byte s k) (rw e (h m (omega arith))) in
-          omega arith;
-    })
 
 -- ---- the settings of a network
 

@@ -9,45 +9,62 @@ ghost use Rattle.model.specs.Bytes.{bit, byte};
 ghost use Rattle.model.specs.Network.{Valid, size, settingPlace, pairs as pairCount};
 ghost use Rattle.model.specs.SchemeBytes.{schemeOf};
 ghost use Rattle.tables.specs.Read.{ReadAs};
+ghost use Rattle.validity.specs.Chosen.{Chosen};
 
-// The greatest of the bytes from one place up to another; 0 where there is none.
-fn greatest(s: &[u8], from: usize, to: usize) -> u8
-    requires { ⌜ to ≤ length (now s) ⌝ }
-    ensures { λ r. ⌜ ((k : ℕ) → from ≤ k → k < to → byte (now (s .entry)) k ≤ r) × ((limit : ℕ) → 1 ≤ limit → ((k : ℕ) → from ≤ k → k < to → byte (now (s .entry)) k < limit) → r < limit) ⌝ }
+// All policies up to a number, as a set.
+fn up_to(most: u8) -> u32
+    requires { ⌜ most < 32 ⌝ }
+    ensures { λ r. ⌜ ((p : ℕ) → p ≤ most → bit r p ≡ true) ⌝ }
 {
-    let mut most: u8 = 0;
-    let mut i = from;
-    while i < to {
-        let b = s[i];
-        i += 1;
-        if b > most {
-            most = b;
-        }
-    }
-    most
+    4294967295u32 >> (31 - most)
 }
 
-// Whether the settings of one resource, the first member's at a place and each next a stride further, are in the mask.
-fn column_offered(s: &[u8], at: usize, stride: usize, members: usize, mask: u32) -> bool
+// Whether each policy of a set is in the mask.
+fn subset(set: u32, mask: u32) -> bool
+    ensures { λ r. ⌜ Decides r ((p : ℕ) → bit set p ≡ true → bit mask p ≡ true) ⌝ }
+{
+    set & mask == set
+}
+
+// The policies that the settings of one resource choose, as a set: the first member's setting is at a place, each next a stride further.
+// Two members a turn, into two sets: neither waits for the other.
+fn chosen(s: &[u8], at: usize, stride: usize, members: usize) -> u32
     requires { ⌜ (at + members * stride ≤ 65536) × ((m : ℕ) → m < members → at + m * stride < length (now s)) ⌝ }
     requires { ⌜ ((m : ℕ) → m < members → byte (now s) (at + m * stride) < 32) ⌝ }
-    ensures { λ r. ⌜ Decides r ((m : ℕ) → m < members → bit mask (byte (now (s .entry)) (at + m * stride)) ≡ true) ⌝ }
+    ensures { λ r. ⌜ Chosen (now (s .entry)) at stride members r ⌝ }
 {
-    let mut all: u32 = 1;
+    let mut one: u32 = 0;
+    let mut other: u32 = 0;
     let mut k = at;
     let mut m: usize = 0;
-    while m < members {
-        all = all & (mask >> (s[k] % 32));
-        k += stride;
-        m += 1;
+    while members - m > 1 {
+        one = one | (1u32 << (s[k] % 32));
+        other = other | (1u32 << (s[k + stride] % 32));
+        k += 2 * stride;
+        m += 2;
     }
-    all == 1
+    if m < members {
+        one = one | (1u32 << (s[k] % 32));
+    }
+    one | other
 }
 
-// Whether every setting is in its resource's mask.
-fn settings_offered(scheme: &[u8], c: Summary, network: &[u8]) -> bool
+// Whether the settings of one resource are in the mask; all are in a wider set, and if that is in the mask they are not read.
+fn column_offered(s: &[u8], at: usize, stride: usize, members: usize, mask: u32, wider: u32) -> bool
+    requires { ⌜ (at + members * stride ≤ 65536) × ((m : ℕ) → m < members → at + m * stride < length (now s)) ⌝ }
+    requires { ⌜ ((m : ℕ) → m < members → bit wider (byte (now s) (at + m * stride)) ≡ true) ⌝ }
+    ensures { λ r. ⌜ Decides r ((m : ℕ) → m < members → bit mask (byte (now (s .entry)) (at + m * stride)) ≡ true) ⌝ }
+{
+    if subset(wider, mask) {
+        return true;
+    }
+    subset(chosen(s, at, stride, members), mask)
+}
+
+// Whether every setting is in its resource's mask; all are in a wider set.
+fn settings_offered(scheme: &[u8], c: Summary, network: &[u8], wider: u32) -> bool
     requires { ⌜ ReadAs (now scheme) c × (length (now network) ≡ size (schemeOf (now scheme))) ⌝ }
-    requires { ⌜ ((k : ℕ) → pairCount (c .members) ≤ k → k < length (now network) → byte (now network) k < 32) ⌝ }
+    requires { ⌜ ((k : ℕ) → pairCount (c .members) ≤ k → k < length (now network) → bit wider (byte (now network) k) ≡ true) ⌝ }
     ensures { λ x. ⌜ Decides x ((m r : ℕ) → m < c .members → r < 2 + c .primitives + c .items → bit (schemeOf (now (scheme .entry)) .mask r) (byte (now (network .entry)) (settingPlace (schemeOf (now (scheme .entry))) m r)) ≡ true) ⌝ }
 {
     let from = network::read::pairs(c.members);
@@ -55,7 +72,7 @@ fn settings_offered(scheme: &[u8], c: Summary, network: &[u8]) -> bool
     let mut r: usize = 0;
     while r < resources {
         let mask = tables::mask(scheme, c, r);
-        if !column_offered(network, from + r, resources, c.members, mask) {
+        if !column_offered(network, from + r, resources, c.members, mask, wider) {
             return false;
         }
         r += 1;
@@ -73,11 +90,12 @@ pub fn valid(scheme: &[u8], c: Summary, network: &[u8]) -> bool
     if network.len() != end {
         return false;
     }
-    if records::wide(greatest(network, 0, pairs)) >= c.states {
+    if records::wide(records::greatest(network, 0, pairs, 0)) >= c.states {
         return false;
     }
-    if greatest(network, pairs, end) >= 32 {
+    let most = records::greatest(network, pairs, end - pairs, 0);
+    if most >= 32 {
         return false;
     }
-    settings_offered(scheme, c, network)
+    settings_offered(scheme, c, network, up_to(most))
 }

@@ -1,61 +1,57 @@
-use Prim.Native.Nat.{_-_, _≤_}
+use Prim.Native.Nat.{_+_, _-_, _≤_}
 use mathlib.Core.Path.{_≡_}
-use mathlib.Core.Logic.{⊎-elim}
-use borrow.Author.Needs.{needs}
 use native.Mathlib.Omega.{arith}
-use Rattle.model.proofs.Sets.{Added, added, left-out}
-use Rattle.strangers.proofs.Strangers.{Admitting, admitting-none, admitting-more}
+use lib.ListN.{length, length-set}
+use borrow.Author.Needs.{needs}
+use Rattle.strangers.specs.Strangers.{SidesBelow}
+use Rattle.strangers.proofs.Strangers.{sides-more}
 use Rattle.strangers.proofs.admitting.Statement.{statement}
 use Rattle.strangers.proofs.admitting.Tie as tie
 
--- the set has the policies below p that admit
 abbrev Inv-loop : tie.InvT-loop
-Inv-loop scheme c side set₀ p₀ set p = Admitting scheme side set p × (p ≤ c .policies)
+Inv-loop scheme c p sides₀ q₀ sides q = (q ≤ p + 1) × (length sides ≡ 32) × SidesBelow scheme sides q
 
 abbrev μ-loop : tie.MeasureT-loop
-μ-loop scheme c side set₀ p₀ set p = c .policies - p
+μ-loop scheme c p sides₀ q₀ sides q = p + 1 - q
+
+no-sides-requires : tie.Need-no-sides-requires Inv-loop μ-loop
+no-sides-requires c κs = tt
 
 loop-holds : tie.Need-loop-holds Inv-loop μ-loop
-loop-holds c = (admitting-none (c .before .args .scheme .now) (c .before .args .side), omega arith)
+loop-holds c = (omega arith, c .no-sides .ensures, λ k l. absurd (omega arith))
 
 policy-requires : tie.Need-policy-requires Inv-loop μ-loop
 policy-requires c κs = search needs
 
-rule-admits-requires : tie.Need-rule-admits-requires Inv-loop μ-loop
-rule-admits-requires c κs = search needs
+slice-aggregate-rule-sides : tie.Need-slice-aggregate-rule-sides Inv-loop μ-loop
+slice-aggregate-rule-sides c = omega arith
 
-cast-set : tie.Need-cast-set Inv-loop μ-loop
-cast-set c = search needs
+rule-sides-requires : tie.Need-rule-sides-requires Inv-loop μ-loop
+rule-sides-requires c κs = (c .before .policy .ensures .fits, omega arith, c .before .before .before .loop .inv .2)
 
-shl-set : tie.Need-shl-set Inv-loop μ-loop
-shl-set c = search needs
+array-write-sides : tie.Need-array-write-sides Inv-loop μ-loop
+array-write-sides c = omega arith
 
-add-p : tie.Need-add-p Inv-loop μ-loop
-add-p c = search needs
+add-q : tie.Need-add-q Inv-loop μ-loop
+add-q c = omega arith
 
 loop-less : tie.Need-loop-less Inv-loop μ-loop
-loop-less c = search needs
+loop-less c = omega arith
 
 loop-again : tie.Need-loop-again Inv-loop μ-loop
 loop-again c =
     let a = c .before .before .before .before .before .before .before .args in
-    let set = c .before .before .before .before .before .loop .set in
-    let p = c .before .before .before .before .before .loop .p in
-    let i = c .before .before .before .before .before .loop .inv .0 in
-    let d : Added set p (c .before .rule-admits .result) (c .if2 .set) =
-    ⊎-elim
-    (λ w. rw (w .0 .taken, w .1) (added 32 set p (omega arith) (i .none-above)))
-    (λ w. rw (w .0 .left, w .1) (left-out set p (i .none-above)))
-    (c .if2 .came) in (
-      admitting-more (a .scheme .now) (a .side) set p (c .if2 .set) _ i d
-          (λ n u v h. rw (c .before .before .policy .ensures .policy) (c .before .rule-admits .ensures n u v h)),
+    let l = c .before .before .before .before .loop in (
       omega arith,
+      simp length-set (l .inv .1),
+      sides-more (a .scheme .now) (l .sides) (l .q) (c .rule-sides .result) (omega arith) (l .inv .2) (rw (c .before .before .policy .ensures .policy) (c .rule-sides .ensures)),
     )
 
+array-read-result : tie.Need-array-read-result Inv-loop μ-loop
+array-read-result c = omega arith
+
 returns : tie.Need-returns Inv-loop μ-loop
-returns c =
-    let e : c .before .before .loop .p ≡ c .before .before .before .before .args .c .policies = omega arith in
-    rw (← e) (c .before .before .loop .inv .0 .admits)
+returns c = c .before .loop .inv .2 (c .before .before .before .before .args .p) (omega arith)
 
 pub admitting-spec : {M : Type 1} → statement M
 admitting-spec =
@@ -63,12 +59,14 @@ admitting-spec =
     (tie.spec
     Inv-loop
     μ-loop
+    no-sides-requires
     loop-holds
     policy-requires
-    rule-admits-requires
-    cast-set
-    shl-set
-    add-p
+    slice-aggregate-rule-sides
+    rule-sides-requires
+    array-write-sides
+    add-q
     loop-less
     loop-again
+    array-read-result
     returns)

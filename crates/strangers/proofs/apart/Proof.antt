@@ -1,11 +1,12 @@
 use Prim.Native.Nat.{_+_, _<_}
-use mathlib.Core.Path.{_≡_, refl, ap, _∙_}
+use mathlib.Core.Path.{_≡_, sym, ap, _∙_}
 use native.Mathlib.Omega.{arith}
 use denote.Ref.{now}
 use Rattle.model.specs.Bytes.{byte}
 use Rattle.model.specs.Scheme.{lowest}
 use Rattle.model.specs.SchemeBytes.{schemeOf, at3, P}
-use Rattle.strangers.proofs.Strangers.{offered-is, lowest-below, searched, apart-decides}
+use Rattle.strangers.specs.Strangers.{SidesOf}
+use Rattle.strangers.proofs.Strangers.{lowest-below, searched, apart-decides}
 use borrow.Author.Needs.{needs}
 use Rattle.strangers.proofs.apart.Statement.{statement}
 use Rattle.strangers.proofs.apart.Tie as tie
@@ -32,12 +33,6 @@ mask-requires c κs = search needs
 lowest-requires : tie.Need-lowest-requires
 lowest-requires c κs = search needs
 
-admitting-requires : tie.Need-admitting-requires
-admitting-requires c κs = search needs
-
-offered-requires : tie.Need-offered-requires
-offered-requires c κs = search needs
-
 -- the lowest search policy is one of the scheme's
 search-below : (c : tie.After-lowest)
     → lowest (schemeOf (now (c .before .before .before .before .before .before .args .scheme)) .mask 0)
@@ -52,31 +47,35 @@ search-below c =
 searched-is : (c : tie.After-lowest) → c .lowest .result ≡ lowest (schemeOf (now (c .before .before .before .before .before .before .args .scheme)) .mask 0)
 searched-is c = c .lowest .ensures .0 ∙ ap lowest (c .before .mask .ensures .0)
 
+admitting-requires : tie.Need-admitting-requires
+admitting-requires c κs = (c .before .before .before .before .before .before .pre, rw (searched-is c) (search-below c))
+
+-- the code has the sides of the lowest search policy
+sides-are : (c : tie.After-admitting)
+    → SidesOf (c .admitting .result) (schemeOf (now (c .before .before .before .before .before .before .before .args .scheme)) .policy (lowest (schemeOf (now (c .before .before .before .before .before .before .before .args .scheme)) .mask 0)))
+sides-are c = rw (searched-is (c .before)) at (c .admitting .ensures)
+
+cast-sides : tie.Need-cast-sides
+cast-sides c = search needs
+
+offered-requires : tie.Need-offered-requires
+offered-requires c κs = search needs
+
 returns-2 : tie.Need-returns-2
 returns-2 c =
-    let s = c .before .before .before .before .before .before .before .before .before in
-    let b = now (s .args .scheme) in
-    let e = offered-is (c .before .before .admitting .result) (searched-is (c .before .before .before)) (c .before .offered .ensures) (c .if2 .taken) in
-    searched b (s .args .c .policies) (search-below (c .before .before .before)) 1 (c .before .before .admitting .result) 0 1
-    (c .before .before .admitting .ensures) (omega arith) (λ z. omega arith) e
-
-admitting-requires-2 : tie.Need-admitting-requires-2
-admitting-requires-2 c κs = search needs
+    let a = c .before .before in
+    searched (now (a .before .before .before .before .before .before .before .args .scheme)) (a .admitting .result) (sides-are a) 1 0 1 (omega arith) (omega arith) (omega arith) (λ z. omega arith)
+    (sym (c .before .offered .ensures) ∙ c .if2 .taken)
 
 offered-requires-2 : tie.Need-offered-requires-2
 offered-requires-2 c κs = search needs
 
 returns-3 : tie.Need-returns-3
 returns-3 c =
-    let s = c .before .before .before .before .before .before .before .before .before .before .before in
-    let b = now (s .args .scheme) in
-    let m : byte b (at3 b + 4) ≡ 0 =
-    omega (arith, first-mark (c .before .before .before .before .before .before .before .before .before), c .before .before .before .before .before .before .before .if1 .left) in
-    let one = c .before .before .before .before .admitting .result in
-    let d = offered-is one (searched-is (c .before .before .before .before .before)) (c .before .before .before .offered .ensures) (c .before .before .if2 .left) in
-    let e = offered-is (c .before .admitting2 .result) (searched-is (c .before .before .before .before .before)) (c .offered2 .ensures) refl in
-    apart-decides b (s .args .c .policies) (search-below (c .before .before .before .before .before)) one (c .before .admitting2 .result)
-    (c .before .before .before .before .admitting .ensures) (c .before .admitting2 .ensures) m d (c .offered2 .result) e
+    let a = c .before .before .before in
+    let b = now (a .before .before .before .before .before .before .before .args .scheme) in
+    let m : byte b (at3 b + 4) ≡ 0 = omega (arith, first-mark (a .before .before .before .before .before), a .before .before .before .if1 .left) in
+    apart-decides b (a .admitting .result) (sides-are a) m (sym (c .before .before .offered .ensures) ∙ c .before .if2 .left) (c .offered2 .result) (sym (c .offered2 .ensures))
 
 pub apart-spec : {M : Type 1} → statement M
 apart-spec =
@@ -88,8 +87,8 @@ apart-spec =
     mask-requires
     lowest-requires
     admitting-requires
+    cast-sides
     offered-requires
     returns-2
-    admitting-requires-2
     offered-requires-2
     returns-3)

@@ -11,10 +11,10 @@ use Rattle.validity.proofs.settings_offered.Statement.{statement}
 use Rattle.validity.proofs.settings_offered.Tie as tie
 
 abbrev Inv-loop : tie.InvT-loop
-Inv-loop scheme c network from resources r₀ r = (r ≤ resources) × ((k : ℕ) → k < r → ColumnOffered scheme c network k)
+Inv-loop scheme c network wider from resources r₀ r = (r ≤ resources) × ((k : ℕ) → k < r → ColumnOffered scheme c network k)
 
 abbrev μ-loop : tie.MeasureT-loop
-μ-loop scheme c network from resources r₀ r = resources - r
+μ-loop scheme c network wider from resources r₀ r = resources - r
 
 pairs-requires : tie.Need-pairs-requires Inv-loop μ-loop
 pairs-requires c κs = search needs
