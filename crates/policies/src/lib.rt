@@ -8,7 +8,7 @@ ghost use Rattle.model.specs.Decides.{Decides};
 ghost use Rattle.model.specs.Graph.{Friends};
 ghost use Rattle.model.specs.Policies.{Admits};
 ghost use Rattle.model.specs.SchemeBytes.{schemeOf};
-ghost use Rattle.tables.specs.Read.{ReadAs};
+ghost use Rattle.rules.specs.Rules.{kindOf};
 ghost use Rattle.network.specs.Ready.{Ready, graphOf};
 ghost use Rattle.prepared.specs.Prepared.{Prepared};
 ghost use Rattle.rule_admission.specs.Admission.{Reads, Admitted};
@@ -52,12 +52,21 @@ fn relation_read(
     from: usize,
     count: usize,
 ) -> Relation
-    requires { ⌜ Ready (now scheme) c (now network) × Prepared (now scheme) (now network) v (now distances) (now rows) × (u < c .members) × (v < c .members) × (count ≤ c .policies) ⌝ }
+    requires { ⌜ Ready (now scheme) c (now network) × Prepared (now scheme) (now network) v (now distances) (now rows) × (u < c .members) × (v < c .members) × (from ≤ count) × (count ≤ c .policies) ⌝ }
     ensures { λ r. ⌜ Reads (now (scheme .entry)) (now (network .entry)) u v from count r ⌝ }
 {
-    let known = prepared::some_of(scheme, c, from, count, 4);
-    let clique = prepared::some_of(scheme, c, from, count, 5);
-    relation::of_prepared(scheme, c, network, distances, rows, u, v, known, clique)
+    let some = prepared::kinds_of(scheme, c, from, count);
+    relation::of_prepared(
+        scheme,
+        c,
+        network,
+        distances,
+        rows,
+        u,
+        v,
+        some.known,
+        some.clique,
+    )
 }
 
 // The policies from a number on, below the count, that admit accessor v to what owner u has, as a set.
@@ -79,15 +88,21 @@ pub fn admitted(
     judged(scheme, c, network, relation, u, v, from, count)
 }
 
-// The first policy that is judged for policy p: p alone, or all up to it where it combines others.
-fn first_judged(scheme: &[u8], c: Summary, p: usize) -> usize
-    requires { ⌜ ReadAs (now scheme) c × (p < c .policies) ⌝ }
-    ensures { λ r. ⌜ (r ≤ p) × Alone (now (scheme .entry)) r (p + 1) ⌝ }
+// Whether policy p, which combines no others, admits those so related.
+fn alone(
+    scheme: &[u8],
+    c: Summary,
+    network: &[u8],
+    relation: Relation,
+    u: usize,
+    v: usize,
+    p: usize,
+) -> bool
+    requires { ⌜ Ready (now scheme) c (now network) × Reads (now scheme) (now network) u v p (p + 1) relation × (kindOf (schemeOf (now scheme) .policy p) < 7) × (u < c .members) × (v < c .members) × (p < c .policies) ⌝ }
+    ensures { λ r. ⌜ Decides r (Admits (graphOf (now (scheme .entry)) (now (network .entry))) (schemeOf (now (scheme .entry)) .policy p) u v) ⌝ }
 {
-    if rules::kind(scheme, c, p) >= 7 {
-        return 0;
-    }
-    p
+    let rule = rules::policy(scheme, c, p);
+    rule_admission::admits(scheme, c, network, relation, rule, 0, u, v)
 }
 
 // Whether policy p admits accessor v to what owner u has.
@@ -104,14 +119,15 @@ pub fn admits(
     requires { ⌜ Ready (now scheme) c (now network) × Prepared (now scheme) (now network) v (now distances) (now rows) × (u < c .members) × (v < c .members) × (p < c .policies) ⌝ }
     ensures { λ r. ⌜ Decides r (Admits (graphOf (now (scheme .entry)) (now (network .entry))) (schemeOf (now (scheme .entry)) .policy p) u v) ⌝ }
 {
-    let from = first_judged(scheme, c, p);
-    let relation = relation_read(scheme, c, network, distances, rows, u, v, from, p + 1);
-    if from == p {
-        let rule = rules::policy(scheme, c, p);
-        return rule_admission::admits(scheme, c, network, relation, rule, 0, u, v);
+    let kind = rules::kind(scheme, c, p);
+    if kind >= 7 {
+        let set = admitted(scheme, c, network, distances, rows, u, v, 0, p + 1);
+        return tables::offered(set, p);
     }
-    let set = judged(scheme, c, network, relation, u, v, from, p + 1);
-    tables::offered(set, p)
+    let known = kind == 4;
+    let clique = kind == 5;
+    let relation = relation::of_prepared(scheme, c, network, distances, rows, u, v, known, clique);
+    alone(scheme, c, network, relation, u, v, p)
 }
 
 // Whether policy p admits accessor v to what owner u has, where they are one or friends: nothing is prepared for it.
@@ -126,9 +142,13 @@ pub fn admits_friend(
     requires { ⌜ Ready (now scheme) c (now network) × (u < c .members) × (v < c .members) × ((u ≡ v) ⊎ Friends (graphOf (now scheme) (now network)) u v) × (p < c .policies) ⌝ }
     ensures { λ r. ⌜ Decides r (Admits (graphOf (now (scheme .entry)) (now (network .entry))) (schemeOf (now (scheme .entry)) .policy p) u v) ⌝ }
 {
-    let from = first_judged(scheme, c, p);
-    let clique = prepared::some_of(scheme, c, from, p + 1, 5);
-    let relation = relation::of_friends(scheme, c, network, u, v, clique);
-    let set = judged(scheme, c, network, relation, u, v, from, p + 1);
+    let kind = rules::kind(scheme, c, p);
+    if kind < 7 {
+        let relation = relation::of_friends(scheme, c, network, u, v, kind == 5);
+        return alone(scheme, c, network, relation, u, v, p);
+    }
+    let some = prepared::kinds_of(scheme, c, 0, p + 1);
+    let relation = relation::of_friends(scheme, c, network, u, v, some.clique);
+    let set = judged(scheme, c, network, relation, u, v, 0, p + 1);
     tables::offered(set, p)
 }

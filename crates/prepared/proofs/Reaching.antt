@@ -1,17 +1,18 @@
 -- What the policies of a scheme read.
 use Prim.Native.Nat.{ℕ, _+_, _≤_, _<_, zero-le}
-use mathlib.Core.Path.{_≡_, refl, _∙_}
-use mathlib.Core.Bool.{not}
+use mathlib.Core.Path.{_≡_, refl, sym, _∙_}
+use mathlib.Core.Bool.{Bool, false, not, _||_}
 use mathlib.Core.List.{List, [], _∷_}
-use mathlib.Core.Logic.{inl, inr, ⊎-elim}
+use mathlib.Core.Logic.{_⊎_, inl, inr, ⊎-elim}
 use native.Mathlib.Omega.{arith}
 use native.Mathlib.Decide.{ℕ-discrete}
-use lib.Dec.{T}
+use lib.Dec.{T, eqb}
 use mir.Val.{hasKey}
 use types.Run.{OneOf, miss}
 use denote.Enum.Declared.{tagOf}
 use Rattle.model.specs.Policies.{Policy, within}
 use Rattle.model.specs.SchemeBytes.{schemeOf}
+use Rattle.model.proofs.Deciding.{Says, says, iff, disj, is-eq}
 use Rattle.rules.specs.declared.Rule.{Rule}
 use Rattle.rules.specs.declared.Rule.the-variants.{NoOne, Everyone, Owner, Within, Known, Clique, State, Both, Either}
 use Rattle.rules.specs.Rules.{policyOfRule, kindOf, RuleAt}
@@ -81,10 +82,25 @@ module _ {b : List ℕ} {p : ℕ} {rule : Rule} (at : RuleAt b p rule) where
       one = ⊎-elim (λ z. inl z) (λ (q, h, e). inr (q, omega arith, e)) (far .one);
     }
 
--- none of the policies up to p is of that kind
-pub none-more : (b : List ℕ) (from p kind : ℕ) → (kindOf (schemeOf b .policy p) ≡ kind → ⊥) → (SomeOfKind kind b from p → ⊥) → SomeOfKind kind b from (p + 1) → ⊥
-none-more b from p kind n none (q, f, l, r) = go (ℕ-discrete q p)
-  where
-    go : Dec (q ≡ p) → ⊥
-    go (yes d) = n (rw d at r)
-    go (no d) = none (q, f, omega arith, r)
+-- whether one of the policies up to p is of a kind, where it is known of those below p and p's kind is r
+module _ (b : List ℕ) (from p kind : ℕ) {r : ℕ} {t : Bool} where
+  pub some-next : from ≤ p → r ≡ kindOf (schemeOf b .policy p) → Says t (SomeOfKind kind b from p) → Says (t || eqb r kind) (SomeOfKind kind b from (p + 1))
+  some-next f e d = iff to back (disj d (is-eq r kind))
+    where
+      to : SomeOfKind kind b from p ⊎ (r ≡ kind) → SomeOfKind kind b from (p + 1)
+      to (inl (q, g, l, h)) = (q, g, omega arith, h)
+      to (inr h) = (p, f, omega arith, sym e ∙ h)
+
+      back : SomeOfKind kind b from (p + 1) → SomeOfKind kind b from p ⊎ (r ≡ kind)
+      back (q, g, l, h) = go (ℕ-discrete q p)
+        where
+          go : Dec (q ≡ p) → SomeOfKind kind b from p ⊎ (r ≡ kind)
+          go (yes d) = inr (e ∙ (rw d at h))
+          go (no d) = inl (q, g, omega arith, h)
+
+pub some-none : (b : List ℕ) (from kind : ℕ) → Says false (SomeOfKind kind b from from)
+some-none b from kind = says (λ (q, g, l, h). omega arith)
+
+-- whether policy p, of kind r, is of a kind
+pub is-of-kind : (b : List ℕ) (p kind : ℕ) {r : ℕ} → r ≡ kindOf (schemeOf b .policy p) → Says (eqb r kind) (SomeOfKind kind b p (p + 1))
+is-of-kind b p kind e = some-next b p p kind (omega arith) e (some-none b p kind)

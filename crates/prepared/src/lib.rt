@@ -37,19 +37,31 @@ fn farthest(scheme: &[u8], c: Summary) -> usize
     most
 }
 
-// Whether one of the policies from a number on, below the count, is of a kind.
-pub fn some_of(scheme: &[u8], c: Summary, from: usize, count: usize, wanted: u8) -> bool
-    requires { ⌜ ReadAs (now scheme) c × (count ≤ c .policies) ⌝ }
-    ensures { λ r. ⌜ Decides r (SomeOfKind wanted (now (scheme .entry)) from count) ⌝ }
+// Whether one of some policies is of kind known, and whether one is of kind clique.
+pub struct Kinds {
+    pub known: bool,
+    pub clique: bool,
+}
+
+// The kinds of the policies from a number on, below the count.
+pub fn kinds_of(scheme: &[u8], c: Summary, from: usize, count: usize) -> Kinds
+    requires { ⌜ ReadAs (now scheme) c × (from ≤ count) × (count ≤ c .policies) ⌝ }
+    ensures known { λ r. ⌜ Decides (r .known) (SomeOfKind 4 (now (scheme .entry)) from count) ⌝ }
+    ensures clique { λ r. ⌜ Decides (r .clique) (SomeOfKind 5 (now (scheme .entry)) from count) ⌝ }
 {
+    let mut known = false;
+    let mut clique = false;
     let mut p = from;
     while p < count {
-        if rules::kind(scheme, c, p) == wanted {
-            return true;
-        }
+        let kind = rules::kind(scheme, c, p);
+        known = known | (kind == 4);
+        clique = clique | (kind == 5);
         p += 1;
     }
-    false
+    Kinds {
+        known: known,
+        clique: clique,
+    }
 }
 
 // Computes what depends on accessor v alone, as far as a policy of the scheme reads it.
@@ -69,11 +81,12 @@ pub fn prepare(
     if limit != 0 {
         distance::fill(scheme, c, network, v, limit, distances);
     }
-    if some_of(scheme, c, 0, c.policies, 5) {
+    let some = kinds_of(scheme, c, 0, c.policies);
+    if some.clique {
         rows::fill_rows(scheme, c, network, rows);
         return;
     }
-    if some_of(scheme, c, 0, c.policies, 4) {
+    if some.known {
         let row = rows::friend_row(scheme, c, network, v);
         sets::put_row(rows, v, row);
     }

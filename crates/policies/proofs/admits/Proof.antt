@@ -1,75 +1,74 @@
-use Prim.Native.Nat.{_+_}
-use mathlib.Core.Path.{_≡_}
 use native.Mathlib.Omega.{arith}
-use Rattle.model.proofs.Deciding.{decided}
+use Rattle.model.proofs.Deciding.{decided, is-so}
 use Rattle.network.proofs.Reading.{ready-read}
+use Rattle.prepared.proofs.Reaching.{some-more, is-of-kind}
+use Rattle.relation.proofs.Relating.{related-less}
 use Rattle.rule_admission.proofs.Granting.{bit-says}
-use Rattle.policies.proofs.Admitting.{reads-one, lower-all, admitted-none}
 use borrow.Author.Needs.{needs}
 use Rattle.policies.proofs.admits.Statement.{statement}
 use Rattle.policies.proofs.admits.Tie as tie
 
-first-judged-requires : tie.Need-first-judged-requires
-first-judged-requires c κs = let s = c .before .before .before .before in (ready-read (s .pre .0), s .pre .4)
+kind-requires : tie.Need-kind-requires
+kind-requires c κs = let s = c .before .before .before .before in (ready-read (s .pre .0), s .pre .4)
 
-add-relation-read : tie.Need-add-relation-read
-add-relation-read c = search needs
+add-admitted : tie.Need-add-admitted
+add-admitted c = search needs
 
-relation-read-requires : tie.Need-relation-read-requires
-relation-read-requires c κs = search needs
-
-policy-requires : tie.Need-policy-requires
-policy-requires c κs = let s = c .before .before .before .before .before .before .before in (ready-read (s .pre .0), s .pre .4)
-
--- p alone: what it reads, and nobody below it where it is the first
-admits-requires : tie.Need-admits-requires
-admits-requires c κs =
-    let read = c .before .before .relation-read in
-    let first = c .before .before .before .first-judged in
-    let s = c .before .before .before .before .before .before .before .before in
-    let a = s .args in (
-      s .pre .0,
-      record {
-        p = a .p;
-        at = c .policy .ensures;
-        reads = reads-one (a .scheme .now) (a .network .now) (a .u) (a .v) (first .result) (a .p + 1) (read .result) (read .ensures) (a .p) (first .ensures .0) (omega arith);
-        lower = λ h.
-            let z : a .p ≡ 0 = omega (arith, first .ensures .1 (a .p) (first .ensures .0) (omega arith) h, c .before .if1 .taken) in
-            lower-all z (admitted-none (a .scheme .now) (a .network .now) (a .u) (a .v) (a .p));
-      },
-      s .pre .2,
-      s .pre .3,
-    )
-
-returns : tie.Need-returns
-returns c = rw (c .before .policy .ensures .policy) (c .admits .ensures)
-
-add-judged : tie.Need-add-judged
-add-judged c = search needs
-
-judged-requires : tie.Need-judged-requires
-judged-requires c κs = search needs
+admitted-requires : tie.Need-admitted-requires
+admitted-requires c κs = search needs
 
 offered-requires : tie.Need-offered-requires
 offered-requires c κs = search needs
 
+returns : tie.Need-returns
+returns c =
+    let s = c .before .before .before .before .before .before .before .before in
+    rw (c .offered .ensures) (decided (bit-says (c .before .admitted .ensures) (s .args .p) (omega arith) (omega arith)))
+
+of-prepared-requires : tie.Need-of-prepared-requires
+of-prepared-requires c κs =
+    let s = c .before .before .before .before .before .before in
+    let b = s .args .scheme .now in
+    let p = s .args .p in
+    let kind = c .before .kind .ensures in (
+      s .pre .0,
+      s .pre .1,
+      s .pre .2,
+      s .pre .3,
+      λ asked. some-more _ _ p _ _ (omega (arith, s .pre .0 .counts .policies)) (is-of-kind b p 4 kind .yes-if asked),
+      λ asked. some-more _ _ p _ _ (omega (arith, s .pre .0 .counts .policies)) (is-of-kind b p 5 kind .yes-if asked),
+    )
+
+alone-requires : tie.Need-alone-requires
+alone-requires c κs =
+    let s = c .before .before .before .before .before .before .before in
+    let b = s .args .scheme .now in
+    let p = s .args .p in
+    let kind = c .before .before .kind .ensures in (
+      s .pre .0,
+      related-less
+          (λ k (q, f, l, e). (q, omega arith, omega (arith, s .pre .0 .counts .policies), e))
+          (is-so (is-of-kind b p 4 kind))
+          (is-so (is-of-kind b p 5 kind))
+          (c .of-prepared .ensures),
+      omega (arith, kind, c .before .if1 .left),
+      s .pre .2,
+      s .pre .3,
+      s .pre .4,
+    )
+
 returns-2 : tie.Need-returns-2
-returns-2 c =
-    let first = c .before .before .before .before .first-judged in
-    let s = c .before .before .before .before .before .before .before .before .before in
-    rw (c .offered .ensures) (decided (bit-says (c .before .judged .ensures) (s .args .p) (first .ensures .0) (omega arith)))
+returns-2 c = search needs
 
 pub admits-spec : {M : Type 1} → statement M
 admits-spec =
     tie.close
     (tie.spec
-    first-judged-requires
-    add-relation-read
-    relation-read-requires
-    policy-requires
-    admits-requires
-    returns
-    add-judged
-    judged-requires
+    kind-requires
+    add-admitted
+    admitted-requires
     offered-requires
+    returns
+    of-prepared-requires
+    alone-requires
     returns-2)

@@ -3,7 +3,7 @@ use Rattle.policies.proofs.admitted.Tie as tie
 
 relation-read-requires : tie.Need-relation-read-requires
 relation-read-requires c κs =
-    let s = c .before .before .before .before in (s .pre .0, s .pre .1, s .pre .3, s .pre .4, s .pre .6)
+    let s = c .before .before .before .before in (s .pre .0, s .pre .1, s .pre .3, s .pre .4, s .pre .5, s .pre .6)
 
 judged-requires : tie.Need-judged-requires
 judged-requires c κs =

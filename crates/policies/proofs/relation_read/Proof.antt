@@ -6,32 +6,28 @@ use Rattle.relation.proofs.Relating.{related-less}
 use Rattle.policies.proofs.relation_read.Statement.{statement}
 use Rattle.policies.proofs.relation_read.Tie as tie
 
-some-of-requires : tie.Need-some-of-requires
-some-of-requires c κs = let s = c .before .before .before .before in (ready-read (s .pre .0), s .pre .4)
-
-some-of-requires-2 : tie.Need-some-of-requires-2
-some-of-requires-2 c κs = let s = c .before .before .before .before .before in (ready-read (s .pre .0), s .pre .4)
+kinds-of-requires : tie.Need-kinds-of-requires
+kinds-of-requires c κs = let s = c .before .before .before .before in (ready-read (s .pre .0), s .pre .4, s .pre .5)
 
 of-prepared-requires : tie.Need-of-prepared-requires
 of-prepared-requires c κs =
-    let s = c .before .before .before .before .before .before in (
+    let s = c .before .before .before .before .before in (
       s .pre .0,
       s .pre .1,
       s .pre .2,
       s .pre .3,
-      λ asked. some-more _ _ (s .args .from) _ _ (omega (arith, s .pre .0 .counts .policies)) (said-yes asked (c .before .some-of .ensures)),
-      λ asked. some-more _ _ (s .args .from) _ _ (omega (arith, s .pre .0 .counts .policies)) (said-yes asked (c .some-of2 .ensures)),
+      λ asked. some-more _ _ (s .args .from) _ _ (omega (arith, s .pre .0 .counts .policies)) (said-yes asked (c .kinds-of .ensures .0)),
+      λ asked. some-more _ _ (s .args .from) _ _ (omega (arith, s .pre .0 .counts .policies)) (said-yes asked (c .kinds-of .ensures .1)),
     )
 
 returns : tie.Need-returns
 returns c =
-    let s = c .before .before .before .before .before .before .before in
+    let s = c .before .before .before .before .before .before in
     related-less
     (λ k (q, f, l, e). (q, omega arith, omega (arith, s .pre .0 .counts .policies), e))
-    (is-so (says (c .before .before .some-of .ensures)))
-    (is-so (says (c .before .some-of2 .ensures)))
+    (is-so (says (c .before .kinds-of .ensures .0)))
+    (is-so (says (c .before .kinds-of .ensures .1)))
     (c .of-prepared .ensures)
 
 pub relation-read-spec : {M : Type 1} → statement M
-relation-read-spec =
-    tie.close (tie.spec some-of-requires some-of-requires-2 of-prepared-requires returns)
+relation-read-spec = tie.close (tie.spec kinds-of-requires of-prepared-requires returns)

@@ -34,8 +34,8 @@ measured c =
     (λ w. measured-unread b net (s .args .v) _ _ d (c .if1 .distances) far e (w .0 .left) (s .pre .2) (w .1))
     (c .if1 .came)
 
-some-of-requires : tie.Need-some-of-requires
-some-of-requires c κs = (ready-read (c .before .before .before .before .before .before .pre .0), omega arith)
+kinds-of-requires : tie.Need-kinds-of-requires
+kinds-of-requires c κs = (ready-read (c .before .before .before .before .before .before .pre .0), omega arith, omega arith)
 
 fill-rows-requires : tie.Need-fill-rows-requires
 fill-rows-requires c κs = search needs
@@ -49,21 +49,18 @@ same-length-2 c = search needs
 returns : tie.Need-returns
 returns c =
     let s = c .before .before .before .before .before .before .before .before .before .before .before .before in
-    let some = said-yes (c .before .before .before .before .if2 .taken) (c .before .before .before .before .before .some-of .ensures) in
+    let some = said-yes (c .before .before .before .before .if2 .taken) (c .before .before .before .before .before .kinds-of .ensures .1) in
     all-filled (measured (c .before .before .before .before .before .before)) (s .pre .3) (omega (arith, s .pre .0 .counts))
     (some-more _ _ 0 _ _ (omega (arith, s .pre .0 .counts .policies)) some) (c .before .before .fill-rows .ensures)
-
-some-of-requires-2 : tie.Need-some-of-requires-2
-some-of-requires-2 c κs = (ready-read (c .before .before .before .before .before .before .before .before .pre .0), omega arith)
 
 friend-row-requires : tie.Need-friend-row-requires
 friend-row-requires c κs = search needs
 
 put-row-requires : tie.Need-put-row-requires
-put-row-requires c κs = let s = c .before .before .before .before .before .before .before .before .before .before .before .before in (s .pre .3, omega (arith, ready-range (s .pre .0)))
+put-row-requires c κs = let s = c .before .before .before .before .before .before .before .before .before .before .before in (s .pre .3, omega (arith, ready-range (s .pre .0)))
 
 same-length-3 : tie.Need-same-length-3
-same-length-3 c = measured (c .before .before .before .before .before .before .before .before .before) .long ∙ sym (c .before .before .before .before .before .before .before .before .before .before .before .before .before .before .before .pre .2)
+same-length-3 c = measured (c .before .before .before .before .before .before .before .before) .long ∙ sym (c .before .before .before .before .before .before .before .before .before .before .before .before .before .before .pre .2)
 
 same-length-4 : tie.Need-same-length-4
 same-length-4 c = search needs
@@ -72,23 +69,23 @@ same-length-4 c = search needs
 no-clique : (c : tie.Else2) → SomeOfKind 5 (now (c .before .before .before .before .before .before .before .before .args .scheme)) 0 (P (now (c .before .before .before .before .before .before .before .before .args .scheme))) → ⊥
 no-clique c some =
     let s = c .before .before .before .before .before .before .before .before in
-    said-no (c .if2 .left) (c .before .some-of .ensures) (some-more _ _ 0 _ _ (omega (arith, s .pre .0 .counts .policies)) some)
+    said-no (c .if2 .left) (c .before .kinds-of .ensures .1) (some-more _ _ 0 _ _ (omega (arith, s .pre .0 .counts .policies)) some)
 
 returns-2 : tie.Need-returns-2
 returns-2 c =
-    let s = c .before .before .before .before .before .before .before .before .before .before .before .before .before .before .before in
-    let some = said-yes (c .before .before .before .before .before .if3 .taken) (c .before .before .before .before .before .before .some-of2 .ensures) in
-    own-written (measured (c .before .before .before .before .before .before .before .before .before)) (s .pre .3) (no-clique (c .before .before .before .before .before .before .before))
+    let s = c .before .before .before .before .before .before .before .before .before .before .before .before .before .before in
+    let some = said-yes (c .before .before .before .before .before .if3 .taken) (c .before .before .before .before .before .before .before .kinds-of .ensures .0) in
+    own-written (measured (c .before .before .before .before .before .before .before .before)) (s .pre .3) (no-clique (c .before .before .before .before .before .before))
     (some-more _ _ 0 _ _ (omega (arith, s .pre .0 .counts .policies)) some) (c .before .before .before .before .friend-row .ensures) (c .before .before .put-row .ensures)
 
 same-length-5 : tie.Need-same-length-5
-same-length-5 c = measured (c .before .before .before .before) .long ∙ sym (c .before .before .before .before .before .before .before .before .before .before .pre .2)
+same-length-5 c = measured (c .before .before .before) .long ∙ sym (c .before .before .before .before .before .before .before .before .before .pre .2)
 
 returns-3 : tie.Need-returns-3
 returns-3 c =
-    let s = c .before .before .before .before .before .before .before .before .before .before in
-    none-written (measured (c .before .before .before .before)) (s .pre .3) (no-clique (c .before .before))
-    (λ some. said-no (c .if3 .left) (c .before .some-of2 .ensures) (some-more _ _ 0 _ _ (omega (arith, s .pre .0 .counts .policies)) some)) refl
+    let s = c .before .before .before .before .before .before .before .before .before in
+    none-written (measured (c .before .before .before)) (s .pre .3) (no-clique (c .before))
+    (λ some. said-no (c .if3 .left) (c .before .before .kinds-of .ensures .0) (some-more _ _ 0 _ _ (omega (arith, s .pre .0 .counts .policies)) some)) refl
 
 pub prepare-spec : {M : Type 1} → statement M
 prepare-spec =
@@ -96,12 +93,11 @@ prepare-spec =
     (tie.spec
     farthest-requires
     fill-requires
-    some-of-requires
+    kinds-of-requires
     fill-rows-requires
     same-length
     same-length-2
     returns
-    some-of-requires-2
     friend-row-requires
     put-row-requires
     same-length-3
