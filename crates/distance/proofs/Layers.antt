@@ -10,9 +10,9 @@ use native.Mathlib.Omega.{arith}
 use lib.ListN.{length, getD, set, List·getD-eq-default}
 use Rattle.model.specs.Graph.{Graph, Friends, Onward, Within}
 use Rattle.model.proofs.Deciding.{Inside}
+use Rattle.next_friend.proofs.Spreading.{after}
 use Rattle.distance.specs.Distances.{Distances}
 use Rattle.distance.specs.Marks.{Cleared, Layered}
-use Rattle.distance.proofs.Spreading.{after}
 
 -- the marks are right up to d, and the friends of those with a lesser mark have one
 pub record Layers (g : Graph) (v d : ℕ) (s : List ℕ) : Type 0 where
@@ -96,10 +96,21 @@ module _ {g : Graph} {v : ℕ} where
           (eq-or-lt-of-le (x .top j a));
     }
 
-    -- where nobody had the mark d
+    -- where nobody had the mark d, or everybody has one
     pub layers-ended : (limit : ℕ) → Inside g → d ≤ limit → some ≡ false → Distances g v limit t
-    layers-ended limit inside few none =
-        layers-distances limit layers-step inside (omega arith)
-        (λ j l o.
-        ⊎-elim (λ w. omega (arith, x .top j l))
-        (λ w. absurd (y .nobody none (w .2 .0) (omega (arith, w .2 .1)) (w .2 .2 .1))) (y .spread .each j l))
+    layers-ended limit inside few none = layers-distances limit full inside (omega arith) (λ j l o. omega arith)
+      where
+        full : Layers g v (limit + 1) t
+        full = record {
+          top = λ k l. omega (arith, high k l);
+          sound = layers-step .sound;
+          begun = layers-step .begun;
+          outside = layers-step .outside;
+          closed = λ j k a b h o f.
+              elim (decLt (getD t j 0) (d + 1)) [
+                | yes l ↦ layers-step .closed j k a b h l f
+                | no l ↦
+                    ⊎-elim (λ w. absurd (omega (arith, x .top j a)))
+                    (λ w. (y .ended none (w .2 .0) (omega (arith, w .2 .1)) (w .2 .2 .1) k b, omega (arith, high k b))) (y .spread .each j a)
+              ];
+        }

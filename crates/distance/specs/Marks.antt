@@ -1,32 +1,18 @@
 -- What the parts of `fill` do to the marks: a member's mark is one more than its distance, or 0 while it has none.
-use Prim.Native.Nat.{ℕ, _+_, _<_, _≤_}
+use Prim.Native.Nat.{ℕ, _+_, _<_}
 use mathlib.Core.Path.{_≡_}
 use mathlib.Core.Bool.{Bool, false}
 use mathlib.Core.List.{List}
-use mathlib.Core.Logic.{_⊎_}
 use lib.ListN.{length, getD}
-use Rattle.model.specs.Graph.{Graph, Friends}
+use Rattle.model.specs.Graph.{Graph}
+use Rattle.next_friend.specs.Spread.{Spread}
 
 -- every place is 0
 pub record Cleared (marks : List ℕ) : Type 0 where
   pub size : length marks ≡ 256
   pub zeros : (k : ℕ) → k < 256 → getD marks k 0 ≡ 0
 
--- all members below r, of n, have a mark
-pub record Marked (n : ℕ) (marks : List ℕ) (r : ℕ) : Type 0 where
-  pub inside : r ≤ n
-  pub below : (k : ℕ) → k < r → 0 < getD marks k 0
-
--- of the tried pairs j, k: where k had no mark and is a friend of j it has this mark, and all else stays
-pub record Spread (g : Graph) (Tried : ℕ → ℕ → Type 0) (mark : ℕ) (old new : List ℕ) : Type 0 where
-  pub size : length new ≡ 256
-  pub marked : (j k : ℕ) → j < g .members → k < g .members → Tried j k → Friends g k j → 0 < getD new k 0
-  pub each : (k : ℕ) → k < g .members
-      → (getD new k 0 ≡ getD old k 0)
-      ⊎ ((getD old k 0 ≡ 0) × (getD new k 0 ≡ mark) × ((j : ℕ) × (j < g .members) × Tried j k × Friends g k j))
-  pub outside : (k : ℕ) → g .members ≤ k → getD new k 0 ≡ getD old k 0
-
--- the friends of those below i with the mark were tried; where some is false, there was none
+-- the friends of those below i with the mark were tried; where some is false, there was none with it, or everybody has a mark
 pub record Layered (g : Graph) (mark : ℕ) (old : List ℕ) (i : ℕ) (new : List ℕ) (some : Bool) : Type 0 where
   pub spread : Spread g (λ j k. (j < i) × (getD old j 0 ≡ mark)) (mark + 1) old new
-  pub nobody : some ≡ false → (j : ℕ) → j < i → getD old j 0 ≡ mark → ⊥
+  pub ended : some ≡ false → (j : ℕ) → j < i → getD old j 0 ≡ mark → (k : ℕ) → k < g .members → 0 < getD new k 0

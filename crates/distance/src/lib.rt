@@ -4,8 +4,9 @@ ghost use mathlib.Core.Path.{_≡_};
 ghost use Prim.Native.Nat.{_<_, _≤_};
 ghost use lib.ListN.{length};
 ghost use Rattle.network.specs.Ready.{Ready, graphOf};
+ghost use Rattle.next_friend.specs.Spread.{Marked};
 ghost use Rattle.distance.specs.Distances.{Distances};
-ghost use Rattle.distance.specs.Marks.{Cleared, Marked, Spread, Layered};
+ghost use Rattle.distance.specs.Marks.{Cleared, Layered};
 
 // Takes all marks away.
 fn clear(distances: &mut [u16])
@@ -34,31 +35,7 @@ fn unmarked(members: usize, distances: &[u16], from: usize) -> usize
     k
 }
 
-// Marks the friends of m that have no mark yet, from a member on before whom all have one.
-fn spread(
-    scheme: &[u8],
-    c: Summary,
-    network: &[u8],
-    m: usize,
-    mark: u16,
-    from: usize,
-    distances: &mut [u16],
-)
-    requires { ⌜ Ready (now scheme) c (now network) × (m < c .members) × (0 < mark) × (length (now distances) ≡ 256) × Marked (c .members) (now distances) from ⌝ }
-    ensures { λ r. ⌜ Spread (graphOf (now (scheme .entry)) (now (network .entry))) (λ j k. j ≡ m) mark (now (distances .entry)) (now (distances .exit)) ⌝ }
-{
-    let mut k: usize = from;
-    while k < c.members {
-        if distances[k] == 0 {
-            if network::read::friends(scheme, c, network, k, m) {
-                distances[k] = mark;
-            }
-        }
-        k += 1;
-    }
-}
-
-// Marks the friends of those with a mark that have none yet; whether there was one with that mark.
+// Marks the friends of those with a mark that have none yet; false where nobody had that mark, or everybody has one.
 fn layer(scheme: &[u8], c: Summary, network: &[u8], mark: u16, distances: &mut [u16]) -> bool
     requires { ⌜ Ready (now scheme) c (now network) × (0 < mark) × (mark ≤ 255) × (length (now distances) ≡ 256) ⌝ }
     ensures { λ r. ⌜ Layered (graphOf (now (scheme .entry)) (now (network .entry))) mark (now (distances .entry)) (c .members) (now (distances .exit)) r ⌝ }
@@ -69,7 +46,10 @@ fn layer(scheme: &[u8], c: Summary, network: &[u8], mark: u16, distances: &mut [
     while m < c.members {
         if distances[m] == mark {
             from = unmarked(c.members, distances, from);
-            spread(scheme, c, network, m, mark + 1, from, distances);
+            if from == c.members {
+                return false;
+            }
+            next_friend::marks::spread(scheme, c, network, m, mark + 1, from, distances);
             some = true;
         }
         m += 1;

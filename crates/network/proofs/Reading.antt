@@ -93,13 +93,13 @@ module _ {b : List ℕ} {c : Summary} {net : List ℕ} (h : Ready b c net) where
 
   -- as the byte of a pair says
   pub friends-byte : (i j at : ℕ) {r : Bool} → i < j → j < c .members → at ≡ pairPlace i j
-      → r ≡ bit (c .marks) (getD net at 0 % 16)
+      → r ≡ bit (c .marks) (getD net at 0 % 32)
       → (r ≡ graphOf b net .friends i j) × (r ≡ graphOf b net .friends j i)
   friends-byte i j at a d p e =
       let q : ℕ = getD net (pairPlace i j) 0 in
       let (x, y, l) = pair-held i j a d in
-      let s : q % 16 ≡ q = omega (arith, ready-range) in
-      let f = e ∙ ap (λ (x : ℕ). bit (c .marks) (getD net x 0 % 16)) p ∙ ap (bit (c .marks)) s in (
+      let s : q % 32 ≡ q = omega (arith, ready-range) in
+      let f = e ∙ ap (λ (x : ℕ). bit (c .marks) (getD net x 0 % 32)) p ∙ ap (bit (c .marks)) s in (
         f ∙ friends-marked i j q (omega arith) d (λ z. omega arith) x l,
         f ∙ friends-marked j i q d (omega arith) (λ z. omega arith) y l,
       )

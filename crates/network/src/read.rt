@@ -49,11 +49,11 @@ pub fn setting(scheme: &[u8], c: Summary, network: &[u8], m: usize, r: usize) ->
     network[pairs(c.members) + (m * tables::resources(c) + r)]
 }
 
-// Whether a state is among the marked ones.
+// Whether a state is among the marked ones: a bit of 32, as the machine tests it, so that no remainder is computed.
 pub fn marked(marks: u16, q: u8) -> bool
-    ensures { λ r. ⌜ r ≡ bit marks (q % 16) ⌝ }
+    ensures { λ r. ⌜ r ≡ bit marks (q % 32) ⌝ }
 {
-    (marks >> (q % 16)) & 1 == 1
+    ((marks as u32) >> (q % 32)) & 1 == 1
 }
 
 // Whether two members are friends.

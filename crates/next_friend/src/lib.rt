@@ -1,4 +1,6 @@
-// The next friend who is not seen: pair bytes in their order, so that no place is computed anew for each member.
+// Friends of a member, by the pair bytes in their order, so that no place is computed anew for each: the next who is not seen.
+pub mod marks;
+
 use tables::Summary;
 ghost use Prim.Native.Nat.{_<_, _≤_};
 ghost use lib.ListN.{length};
@@ -6,15 +8,15 @@ ghost use Rattle.network.specs.Ready.{Ready, graphOf};
 ghost use Rattle.next_friend.specs.Next.{Next};
 
 // Below m: their bytes stand side by side.
-fn below(scheme: &[u8], c: Summary, network: &[u8], m: usize, seen: &[u8], from: usize) -> usize
+fn below(scheme: &[u8], c: Summary, network: &[u8], m: usize, seen: &[u16], from: usize) -> usize
     requires { ⌜ Ready (now scheme) c (now network) × (m < c .members) × (c .members ≤ length (now seen)) × (from ≤ m) ⌝ }
     ensures { λ r. ⌜ Next (graphOf (now (scheme .entry)) (now (network .entry))) m (now (seen .entry)) from m r ⌝ }
 {
     let at = network::read::pairs(m);
     let mut k = from;
     while k < m {
-        if seen[k] == 0 {
-            if network::read::marked(c.marks, network[at + k]) {
+        if network::read::marked(c.marks, network[at + k]) {
+            if seen[k] == 0 {
                 return k;
             }
         }
@@ -24,15 +26,15 @@ fn below(scheme: &[u8], c: Summary, network: &[u8], m: usize, seen: &[u8], from:
 }
 
 // Above m: the byte of the next stands k further.
-fn above(scheme: &[u8], c: Summary, network: &[u8], m: usize, seen: &[u8], from: usize) -> usize
+fn above(scheme: &[u8], c: Summary, network: &[u8], m: usize, seen: &[u16], from: usize) -> usize
     requires { ⌜ Ready (now scheme) c (now network) × (m < from) × (c .members ≤ length (now seen)) × (from ≤ c .members) ⌝ }
     ensures { λ r. ⌜ Next (graphOf (now (scheme .entry)) (now (network .entry))) m (now (seen .entry)) from (c .members) r ⌝ }
 {
     let mut at = network::read::pairs(from) + m;
     let mut k = from;
     while k < c.members {
-        if seen[k] == 0 {
-            if network::read::marked(c.marks, network[at]) {
+        if network::read::marked(c.marks, network[at]) {
+            if seen[k] == 0 {
                 return k;
             }
         }
@@ -48,7 +50,7 @@ pub fn friend(
     c: Summary,
     network: &[u8],
     m: usize,
-    seen: &[u8],
+    seen: &[u16],
     from: usize,
 ) -> usize
     requires { ⌜ Ready (now scheme) c (now network) × (m < c .members) × (c .members ≤ length (now seen)) × (from ≤ c .members) ⌝ }

@@ -5,7 +5,7 @@ use mathlib.Core.List.{List}
 use mathlib.Core.Logic.{_⊎_}
 use native.Mathlib.Omega.{arith}
 use lib.ListN.{length, getD, set}
-use Rattle.distance.proofs.Spreading.{after}
+use Rattle.next_friend.proofs.Spreading.{after}
 
 -- at k stands the a that was stored at i, or what stood there
 abbrev pub Stored : List ℕ → ℕ → ℕ → ℕ → Type 0

@@ -1,16 +1,16 @@
 -- Where chains may begin is marked, turn by turn.
 use Prim.Native.Nat.{ℕ, _+_, _<_, _≤_}
 use mathlib.Core.Path.{_≡_, refl, sym, _∙_}
-use mathlib.Core.Bool.{Bool, true, false, true≢false}
+use mathlib.Core.Bool.{Bool, true, false}
 use mathlib.Core.List.{List}
 use mathlib.Core.Logic.{inl, inr, ⊎-elim}
 use native.Mathlib.Omega.{arith}
 use borrow.Author.Count.{below-none, below-more}
 use lib.ListN.{length, getD, set, length-set}
 use Rattle.model.specs.Decides.{Decides}
-use Rattle.model.specs.Graph.{Graph, Friends}
 use Rattle.model.specs.Finding.{World}
 use Rattle.model.proofs.Deciding.{said-yes, said-no}
+use Rattle.next_friend.specs.Spread.{Spread}
 use Rattle.starts.specs.Starts.{Begun, StartsAdded}
 use Rattle.starts.proofs.OneStored.{Stored, one-stored}
 
@@ -50,28 +50,23 @@ module _ {n i : ℕ} {Of : ℕ → Type 0} {before seen : List ℕ} (x : StartsA
     pub add-allowed : {a : Bool} → getD seen i 0 ≡ 0 → a ≡ true → Decides a (Of i) → StartsAdded n Of before (i + 1) (set seen i 1)
     add-allowed z e d = add (⊎-elim (λ w. omega arith) (λ w. w .0) (x .each i b)) (said-yes e d)
 
-module _ (g : Graph) (v : ℕ) {n i : ℕ} {before seen : List ℕ} (x : StartsAdded n (Friends g v) before i seen) {r : Bool} (e : r ≡ g .friends v i) where
-  pub skip-stranger : r ≡ false → StartsAdded n (Friends g v) before (i + 1) seen
-  skip-stranger f = skip-other x (λ t. true≢false (sym t ∙ sym e ∙ f))
-
-  pub add-friend : n ≤ 256 → i < n → getD before i 0 ≡ 0 → r ≡ true → StartsAdded n (Friends g v) before (i + 1) (set seen i 1)
-  add-friend small b z t = add x small b z (sym e ∙ t)
-
--- the viewer joins its friends
-pub begun : {w : World} {v i : ℕ} {before seen : List ℕ} → StartsAdded (w .graph .members) (Friends (w .graph) v) before i seen
-    → ((k : ℕ) → getD before k 0 ≡ 0)
+-- nobody was seen, the viewer's friends are, and the viewer joins them
+pub begun : {w : World} {v : ℕ} {before seen : List ℕ} → Spread (w .graph) (λ j k. j ≡ v) 1 before seen → ((k : ℕ) → getD before k 0 ≡ 0)
+    → ((k : ℕ) → w .graph .friends v k ≡ w .graph .friends k v)
     → w .graph .members ≤ 256
-    → w .graph .members ≤ i
     → v < w .graph .members
     → Begun w v (set seen v 1)
-begun {v = v} {seen = seen} x z small o b = record {
-  long = simp length-set (x .long);
+begun {v = v} {seen = seen} x z both small b = record {
+  long = simp length-set (x .size);
   low = λ k a. ⊎-elim (λ q. omega arith) (λ q. ⊎-elim (λ e. omega (arith, z k)) (λ e. omega arith) (x .each k a)) (at k);
   exactly = λ k a. (
-    λ h. ⊎-elim (λ q. inl (q .0)) (λ q. inr (⊎-elim (λ e. absurd (omega (arith, z k))) (λ e. e .2) (x .each k a))) (at k),
-    λ h. ⊎-elim (λ q. omega arith) (λ q. ⊎-elim (λ e. absurd (q .0 e)) (λ f. omega (arith, x .added k (omega arith) f)) h) (at k),
+    λ h.
+        ⊎-elim (λ q. inl (q .0))
+        (λ q. inr (⊎-elim (λ e. absurd (omega (arith, z k))) (λ e. both k ∙ rw (e .2 .2) at (e .2 .3)) (x .each k a)))
+        (at k),
+    λ h. ⊎-elim (λ q. omega arith) (λ q. ⊎-elim (λ e. absurd (q .0 e)) (λ f. omega (arith, x .marked v k b a refl (sym (both k) ∙ f))) h) (at k),
   );
 }
   where
     at : (k : ℕ) → Stored seen v 1 k
-    at = one-stored seen v 1 (x .long) (omega arith)
+    at = one-stored seen v 1 (x .size) (omega arith)

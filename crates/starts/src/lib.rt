@@ -28,24 +28,18 @@ pub fn allows(
 }
 
 // Nobody is seen.
-pub fn unseen() -> [u8; 256]
+pub fn unseen() -> [u16; 256]
     ensures { λ r. ⌜ (length r ≡ 256) × ((k : ℕ) → getD r k 0 ≡ 0) ⌝ }
 {
-    [0u8; 256]
+    [0u16; 256]
 }
 
 // Marks the viewer and its friends as waiting.
-pub fn begin(scheme: &[u8], c: Summary, network: &[u8], v: usize, seen: &mut [u8])
+pub fn begin(scheme: &[u8], c: Summary, network: &[u8], v: usize, seen: &mut [u16])
     requires { ⌜ Ready (now scheme) c (now network) × (v < c .members) × (length (now seen) ≡ 256) × ((k : ℕ) → getD (now seen) k 0 ≡ 0) ⌝ }
     ensures { λ r. ⌜ Begun (worldOf (now (scheme .entry)) (now (network .entry))) v (now (seen .exit)) ⌝ }
 {
-    let mut k: usize = 0;
-    while k < c.members {
-        if network::read::friends(scheme, c, network, v, k) {
-            seen[k] = 1;
-        }
-        k += 1;
-    }
+    next_friend::marks::spread(scheme, c, network, v, 1, 0, seen);
     seen[v] = 1;
 }
 
@@ -59,7 +53,7 @@ pub fn search(
     rows: &[u64],
     v: usize,
     u: usize,
-    seen: &mut [u8],
+    seen: &mut [u16],
 )
     requires { ⌜ Ready (now scheme) c (now network) × Prepared (now scheme) (now network) v (now distances) (now rows) × (v < c .members) × ((u < c .members) → Allows (worldOf (now scheme) (now network)) u 0 v → ⊥) × (length (now seen) ≡ 256) ⌝ }
     ensures { λ r. ⌜ SearchAdded (worldOf (now (scheme .entry)) (now (network .entry))) v (now (seen .entry)) (c .members) (now (seen .exit)) ⌝ }

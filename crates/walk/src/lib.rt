@@ -8,7 +8,7 @@ ghost use Rattle.prepared.specs.Prepared.{Prepared};
 ghost use Rattle.walk.specs.Walks.{NobodyWaits, AllSeen, FirstWaiting, FirstUnseen, Walk, Unmet, Walked};
 
 // The first member that waits, or their number; nobody below a member does.
-fn waiting(members: usize, seen: &[u8], from: usize) -> usize
+fn waiting(members: usize, seen: &[u16], from: usize) -> usize
     requires { ⌜ (members ≤ length (now seen)) × (from ≤ members) × NobodyWaits from (now seen) ⌝ }
     ensures { λ r. ⌜ FirstWaiting members (now (seen .entry)) r ⌝ }
 {
@@ -23,7 +23,7 @@ fn waiting(members: usize, seen: &[u8], from: usize) -> usize
 }
 
 // The first member that is unseen, or their number; everyone below a member is seen.
-fn first_unseen(members: usize, seen: &[u8], from: usize) -> usize
+fn first_unseen(members: usize, seen: &[u16], from: usize) -> usize
     requires { ⌜ (members ≤ length (now seen)) × (from ≤ members) × AllSeen from (now seen) ⌝ }
     ensures { λ r. ⌜ FirstUnseen members (now (seen .entry)) r ⌝ }
 {
@@ -46,7 +46,7 @@ pub fn walk(
     rows: &[u64],
     v: usize,
     u: usize,
-    seen: &mut [u8],
+    seen: &mut [u16],
 ) -> bool
     requires { ⌜ Ready (now scheme) c (now network) × Prepared (now scheme) (now network) v (now distances) (now rows) × (v < c .members) × Walk (worldOf (now scheme) (now network)) v (now seen) × Unmet (worldOf (now scheme) (now network)) u (now seen) ⌝ }
     ensures { λ r. ⌜ Walked (worldOf (now (scheme .entry)) (now (network .entry))) v u (now (seen .entry)) (now (seen .exit)) r ⌝ }
@@ -62,14 +62,17 @@ pub fn walk(
         low = m;
         if starts::allows(scheme, c, network, distances, rows, m, 1, v) {
             first = first_unseen(c.members, seen, first);
-            let mut k = next_friend::friend(scheme, c, network, m, seen, first);
+            let mut k = first;
             while k < c.members {
-                if k == u {
-                    break 'walk true;
+                k = next_friend::friend(scheme, c, network, m, seen, k);
+                if k < c.members {
+                    if k == u {
+                        break 'walk true;
+                    }
+                    seen[k] = 1;
+                    low = records::least(low, k);
+                    k += 1;
                 }
-                seen[k] = 1;
-                low = records::least(low, k);
-                k = next_friend::friend(scheme, c, network, m, seen, k + 1);
             }
         }
     };

@@ -5,8 +5,10 @@ use native.Mathlib.Omega.{arith}
 use borrow.Author.Count.{below-none}
 use Rattle.network.specs.Ready.{graphOf}
 use Rattle.network.proofs.Reading.{ready-range}
-use Rattle.distance.specs.Marks.{Layered, Marked}
-use Rattle.distance.proofs.Spreading.{layer-pass, layer-hit, spread-none, still-marked}
+use Rattle.next_friend.specs.Spread.{Marked}
+use Rattle.next_friend.proofs.Spreading.{spread-none, still-marked}
+use Rattle.distance.specs.Marks.{Layered}
+use Rattle.distance.proofs.LayerTurns.{layer-pass, layer-hit, layer-full}
 use Rattle.distance.proofs.layer.Statement.{statement}
 use Rattle.distance.proofs.layer.Tie as tie
 
@@ -19,7 +21,7 @@ abbrev μ-loop : tie.MeasureT-loop
 loop-holds : tie.Need-loop-holds Inv-loop μ-loop
 loop-holds c = (
   omega arith,
-  record { spread = spread-none (c .before .before .before .pre .3) (λ j k t. absurd (omega (arith, t .0))); nobody = λ e j l. absurd (omega arith) },
+  record { spread = spread-none (c .before .before .before .pre .3) (λ j k t. absurd (omega (arith, t .0))); ended = λ e j l. absurd (omega arith) },
   record { inside = omega arith; below = below-none _ },
 )
 
@@ -34,14 +36,24 @@ unmarked-requires c κs =
     let l = c .before .before .before .before .before in
     (omega (arith, ready-range (l .before .before .before .before .pre .0), l .loop .inv .1 .spread .size), l .loop .inv .2)
 
+same-length : tie.Need-same-length Inv-loop μ-loop
+same-length c = omega (arith, c .before .before .before .before .before .before .before .before .loop .inv .1 .spread .size)
+
+returns : tie.Need-returns Inv-loop μ-loop
+returns c =
+    let l = c .before .before .before .before .before .before .before .before in
+    let s = l .before .before .before .before in
+    let e = s .pre .0 .counts .members in
+    layer-full (l .loop .inv .1) (s .pre .1) (omega arith) (omega arith) (λ k b. c .before .before .unmarked .ensures .below k (omega arith))
+
 add-spread : tie.Need-add-spread Inv-loop μ-loop
 add-spread c = omega arith
 
 spread-requires : tie.Need-spread-requires Inv-loop μ-loop
 spread-requires c κs =
-    let l = c .before .before .before .before .before .before .before in
+    let l = c .before .before .before .before .before .before .before .before .before in
     let s = l .before .before .before .before in
-    (s .pre .0, omega arith, omega arith, l .loop .inv .1 .spread .size, c .before .unmarked .ensures)
+    (s .pre .0, omega arith, omega arith, l .loop .inv .1 .spread .size, c .before .before .before .unmarked .ensures)
 
 add-m : tie.Need-add-m Inv-loop μ-loop
 add-m c = omega arith
@@ -56,19 +68,19 @@ loop-again c =
     let x = l .loop .inv .1 in
     let e = s .pre .0 .counts .members in
     ⊎-elim
-    (λ w. rw (w .7, w .8, w .9) (
+    (λ w. rw (w .9, w .10, w .11) (
       omega arith,
-      layer-hit x (s .pre .1) (omega arith) (w .0 .taken) (w .4 .ensures),
-      still-marked (w .4 .ensures) (omega arith) (omega arith) (w .2 .ensures),
+      layer-hit x (s .pre .1) (omega arith) (w .0 .taken) (w .6 .ensures),
+      still-marked (w .6 .ensures) (omega arith) (omega arith) (w .2 .ensures),
     ))
     (λ w. rw (w .1, w .2, w .3) (omega arith, layer-pass x (s .pre .1) (omega arith) (w .0 .left), l .loop .inv .2))
     (c .if2 .came)
 
-same-length : tie.Need-same-length Inv-loop μ-loop
-same-length c = omega (arith, c .before .before .loop .inv .1 .spread .size)
+same-length-2 : tie.Need-same-length-2 Inv-loop μ-loop
+same-length-2 c = omega (arith, c .before .before .loop .inv .1 .spread .size)
 
-returns : tie.Need-returns Inv-loop μ-loop
-returns c =
+returns-2 : tie.Need-returns-2 Inv-loop μ-loop
+returns-2 c =
     let l = c .before .before .loop in
     let e : l .m ≡ c .before .before .before .before .before .before .args .c .members = omega arith in
     rw e at (l .inv .1)
@@ -83,10 +95,12 @@ layer-spec =
     mul-if2
     slice-read-if2
     unmarked-requires
+    same-length
+    returns
     add-spread
     spread-requires
     add-m
     loop-less
     loop-again
-    same-length
-    returns)
+    same-length-2
+    returns-2)

@@ -35,6 +35,9 @@ begin-requires c κs =
     let p = n .before .before .before .before .before .pre in
     (p .0, p .2, n .unseen .ensures .0, n .unseen .ensures .1)
 
+mul-if1 : tie.Need-mul-if1
+mul-if1 c = omega (arith, ready-range (start (c .before) .pre .0))
+
 array-read-if1 : tie.Need-array-read-if1
 array-read-if1 c = omega (arith, ready-range (start (c .before) .pre .0))
 
@@ -104,6 +107,7 @@ finds-spec =
     unseen-requires
     slice-aggregate-begin
     begin-requires
+    mul-if1
     array-read-if1
     returns
     allows-requires

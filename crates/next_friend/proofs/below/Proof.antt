@@ -15,35 +15,45 @@ Inv-loop scheme c network m seen from at k₀ k = (k ≤ m) × Passed (graphOf s
 abbrev μ-loop : tie.MeasureT-loop
 μ-loop scheme c network m seen from at k₀ k = m - k
 
+-- where the function begins
+abbrev start : tie.At-loop Inv-loop μ-loop → tie.Start Inv-loop μ-loop
+start a = a .before .before .before .before .before
+
 pairs-requires : tie.Need-pairs-requires Inv-loop μ-loop
 pairs-requires c κs = omega (arith, ready-range (c .before .before .before .pre .0))
 
 loop-holds : tie.Need-loop-holds Inv-loop μ-loop
 loop-holds c = (omega arith, pass-none)
 
-shared-slice-read-if1 : tie.Need-shared-slice-read-if1 Inv-loop μ-loop
-shared-slice-read-if1 c = omega arith
-
 add-marked : tie.Need-add-marked Inv-loop μ-loop
-add-marked c = omega (arith, ready-range (c .before .before .before .before .before .before .before .before .pre .0))
+add-marked c = omega (arith, ready-range (start (c .before) .pre .0))
 
 shared-slice-read-marked : tie.Need-shared-slice-read-marked Inv-loop μ-loop
 shared-slice-read-marked c =
-    let s = c .before .before .before .before .before .before .before .before .before in
-    omega (arith, pair-inside (s .pre .0) (c .before .before .before .before .loop .k) (s .args .m) (c .before .before .before .loop-test .taken) (s .pre .1))
+    let a = c .before .before in
+    omega (arith, pair-inside (start a .pre .0) (a .loop .k) (start a .args .m) (c .before .loop-test .taken) (start a .pre .1))
 
 marked-requires : tie.Need-marked-requires Inv-loop μ-loop
 marked-requires c κs = search needs
 
 -- whether k is a friend
 says : (c : tie.After-marked Inv-loop μ-loop)
-    → c .marked .result ≡ graphOf (c .before .before .before .before .before .before .before .before .before .before .args .scheme .now) (c .before .before .before .before .before .before .before .before .before .before .args .network .now) .friends (c .before .before .before .before .before .before .before .before .before .before .args .m) (c .before .before .before .before .before .loop .k)
+    → c .marked .result ≡ graphOf (start (c .before .before .before) .args .scheme .now) (start (c .before .before .before) .args .network .now) .friends (start (c .before .before .before) .args .m) (c .before .before .before .loop .k)
 says c =
-    let s = c .before .before .before .before .before .before .before .before .before .before in
-    friends-byte (s .pre .0) (c .before .before .before .before .before .loop .k) (s .args .m) _ (c .before .before .before .before .loop-test .taken) (s .pre .1) (omega (arith, c .before .before .before .before .before .before .pairs .ensures .0)) (c .marked .ensures) .1
+    let a = c .before .before .before in
+    let s = start a in
+    friends-byte (s .pre .0) (a .loop .k) (s .args .m) _ (c .before .before .loop-test .taken) (s .pre .1) (omega (arith, a .before .pairs .ensures .0)) (c .marked .ensures) .1
+
+mul-if2 : tie.Need-mul-if2 Inv-loop μ-loop
+mul-if2 c = omega (arith, ready-range (start (c .before .before .before .before) .pre .0))
+
+shared-slice-read-if2 : tie.Need-shared-slice-read-if2 Inv-loop μ-loop
+shared-slice-read-if2 c = omega arith
 
 returns : tie.Need-returns Inv-loop μ-loop
-returns c = pass-stop (c .before .before .before .before .before .before .loop .inv .1) (omega arith) (says (c .before)) (c .if2 .taken) (c .before .before .before .if1 .taken)
+returns c =
+    let d = c .before .before .before in
+    pass-stop (d .before .before .before .loop .inv .1) (omega arith) (says d) (c .before .before .if1 .taken) (c .if2 .taken)
 
 add-k : tie.Need-add-k Inv-loop μ-loop
 add-k c = omega arith
@@ -53,13 +63,8 @@ loop-less c = omega arith
 
 loop-again : tie.Need-loop-again Inv-loop μ-loop
 loop-again c =
-    let x = c .before .before .before .loop .inv .1 in (
-      omega arith,
-      ⊎-elim
-          (λ w. pass-stranger x (says record { before = record { before = record { before = c .before; if1 = w .0 }; shared-slice-known5 = w .1 }; marked = w .2 }) (w .3 .left))
-          (λ w. pass-seen x (w .left))
-          (c .if1 .came),
-    )
+    let x = c .before .before .before .before .loop .inv .1 in
+    (omega arith, ⊎-elim (λ w. pass-seen x (w .2 .left)) (λ w. pass-stranger x (says (c .before)) (w .left)) (c .if1 .came))
 
 returns-2 : tie.Need-returns-2 Inv-loop μ-loop
 returns-2 c = pass-end (c .before .loop .inv .1) (omega arith) (omega arith)
@@ -72,10 +77,11 @@ below-spec =
     μ-loop
     pairs-requires
     loop-holds
-    shared-slice-read-if1
     add-marked
     shared-slice-read-marked
     marked-requires
+    mul-if2
+    shared-slice-read-if2
     returns
     add-k
     loop-less

@@ -22,6 +22,9 @@ start a = a .before .before .before .before .before .before
 loop-holds : tie.Need-loop-holds Inv-loop μ-loop
 loop-holds c = (omega arith, add-none (c .before .before .before .before .before .pre .4))
 
+mul-if2 : tie.Need-mul-if2 Inv-loop μ-loop
+mul-if2 c = omega (arith, ready-range (start (c .before .before) .pre .0))
+
 slice-read-if2 : tie.Need-slice-read-if2 Inv-loop μ-loop
 slice-read-if2 c =
     let a = c .before .before .before in
@@ -31,6 +34,9 @@ allows-requires : tie.Need-allows-requires Inv-loop μ-loop
 allows-requires c κs =
     let p = start (c .before .before .before .before .before) .pre in
     (p .0, p .1, omega arith, p .2, omega arith)
+
+mul-seen : tie.Need-mul-seen Inv-loop μ-loop
+mul-seen c = omega (arith, ready-range (start (c .before .before .before .before .before .before .before) .pre .0))
 
 slice-write-seen : tie.Need-slice-write-seen Inv-loop μ-loop
 slice-write-seen c =
@@ -77,8 +83,10 @@ search-spec =
     Inv-loop
     μ-loop
     loop-holds
+    mul-if2
     slice-read-if2
     allows-requires
+    mul-seen
     slice-write-seen
     add-k
     loop-less

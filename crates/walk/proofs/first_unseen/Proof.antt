@@ -14,6 +14,9 @@ abbrev μ-loop : tie.MeasureT-loop
 loop-holds : tie.Need-loop-holds Inv-loop μ-loop
 loop-holds c = (c .pre .1, c .pre .2)
 
+mul-if1 : tie.Need-mul-if1 Inv-loop μ-loop
+mul-if1 c = omega arith
+
 shared-slice-read-if1 : tie.Need-shared-slice-read-if1 Inv-loop μ-loop
 shared-slice-read-if1 c = omega arith
 
@@ -39,6 +42,7 @@ first-unseen-spec =
     Inv-loop
     μ-loop
     loop-holds
+    mul-if1
     shared-slice-read-if1
     returns
     add-k

@@ -1,13 +1,10 @@
 use Prim.Native.Nat.{_-_, _<_, _≤_}
-use mathlib.Core.Path.{_≡_}
 use mathlib.Core.Bool.{true≢false, false≢true}
 use native.Mathlib.Omega.{arith}
 use borrow.Author.Count.{below-none}
 use borrow.Author.Needs.{needs}
-use lib.ListN.{getD, length-set}
-use Rattle.model.specs.Graph.{Friends}
 use Rattle.model.specs.SchemeBytes.{n}
-use Rattle.network.specs.Ready.{worldOf, graphOf}
+use Rattle.network.specs.Ready.{worldOf}
 use Rattle.network.proofs.Reading.{ready-range}
 use Rattle.walk.specs.Walks.{NobodyWaits, AllSeen, WalkFor}
 use Rattle.walk.proofs.StepsMarked.{undone, Chosen, Expanding, expand-begin, expand-falls, expand-done, expand-refused, expand-to, expand-met, expand-mark, nobody-else, still-seen, seen-kept, nobody-below}
@@ -19,7 +16,6 @@ Inv-loop scheme c network distances rows v u seen₀ low₀ first m k₀ seen lo
     (k ≤ c .members)
     × (low ≤ c .members)
     × NobodyWaits low seen
-    × (k < c .members → Friends (graphOf scheme network) m k × (getD seen k 0 ≡ 0))
     × Expanding (worldOf scheme network) v u m seen₀ k seen
 
 abbrev μ-loop : tie.MeasureT-loop
@@ -46,7 +42,7 @@ turn x = x .before .before .before .before
 
 -- the member whose friends are gone through
 abbrev expanded : tie.At-loop Inv-loop μ-loop Inv-walk μ-walk → tie.Else1 Inv-loop μ-loop Inv-walk μ-walk
-expanded l = l .before .before .before .before .before .before .before
+expanded l = l .before .before .before .before .before
 
 chosen : (x : tie.Else1 Inv-loop μ-loop Inv-walk μ-walk)
     → Chosen (worldOf (start (turn x) .args .scheme .now) (start (turn x) .args .network .now)) (start (turn x) .args .v) (start (turn x) .args .u) (x .before .before .waiting .result) (start (turn x) .args .seen .now) (turn x .walk .seen)
@@ -68,6 +64,9 @@ waiting-requires : tie.Need-waiting-requires Inv-loop μ-loop Inv-walk μ-walk
 waiting-requires c κs =
     let i = c .before .walk .inv in
     (omega (arith, ready-range (start (c .before) .pre .0), i .4 .walk .long), omega arith, i .2)
+
+mul-seen : tie.Need-mul-seen Inv-loop μ-loop Inv-walk μ-walk
+mul-seen c = let h = chosen c in omega (arith, h .member, h .small)
 
 slice-write-seen : tie.Need-slice-write-seen Inv-loop μ-loop Inv-walk μ-walk
 slice-write-seen c = let h = chosen c in omega (arith, h .walk .long)
@@ -96,68 +95,72 @@ first-unseen-requires c κs =
     let e = p .counts .members in
     (omega (arith, expand-begin h .long), omega (arith, turn x .walk .inv .1), still-seen h (turn x .walk .inv .3))
 
-friend-requires : tie.Need-friend-requires Inv-loop μ-loop Inv-walk μ-walk
-friend-requires c κs =
-    let x = c .before .before .before .before .before in
-    let h = chosen x in
-    let p = start (turn x) .pre .0 in
-    let e = p .counts .members in
-    (p, omega (arith, h .member), omega (arith, h .small, expand-begin h .long), c .before .first-unseen .ensures .within)
-
 loop-holds : tie.Need-loop-holds Inv-loop μ-loop Inv-walk μ-walk
 loop-holds c =
-    let x = c .before .before .before .before .before .before in
+    let x = c .before .before .before .before in
     let h = chosen x in
-    let f = c .friend .ensures in
-    let s = c .before .before .first-unseen .ensures in
-    (f .within, x .before .before .waiting .ensures .within, nobody-else h, f .stops, expand-to (expand-to (expand-begin h) (λ k a l g. s .everyone k a)) (f .passed))
+    let s = c .first-unseen .ensures in
+    (s .within, x .before .before .waiting .ensures .within, nobody-else h, expand-to (expand-begin h) (λ k a l g. s .everyone k a))
 
 walk-less : tie.Need-walk-less Inv-loop μ-loop Inv-walk μ-walk
 walk-less c =
     let l = c .before .before in
-    expand-falls (chosen (expanded l)) (l .loop .inv .4)
+    expand-falls (chosen (expanded l)) (l .loop .inv .3)
 
 walk-again : tie.Need-walk-again Inv-loop μ-loop Inv-walk μ-walk
 walk-again c =
     let l = c .before .before in
     let i = l .loop .inv in
     let e = start (turn (expanded l)) .pre .0 .counts .members in
-    let s = l .before .before .before .first-unseen .ensures in
-    (i .1, s .within, i .2, seen-kept (i .4) (omega (arith, s .within)) (s .everyone), expand-done (chosen (expanded l)) (i .4) (omega arith))
+    let s = l .before .first-unseen .ensures in
+    (i .1, s .within, i .2, seen-kept (i .3) (omega (arith, s .within)) (s .everyone), expand-done (chosen (expanded l)) (i .3) (omega arith))
+
+friend-requires : tie.Need-friend-requires Inv-loop μ-loop Inv-walk μ-walk
+friend-requires c κs =
+    let l = c .before .before .before in
+    let h = chosen (expanded l) in
+    let p = start (turn (expanded l)) .pre .0 in
+    let e = p .counts .members in
+    (p, omega (arith, h .member), omega (arith, h .small, l .loop .inv .3 .long), l .loop .inv .0)
+
+mul-seen-2 : tie.Need-mul-seen-2 Inv-loop μ-loop Inv-walk μ-walk
+mul-seen-2 c = omega (arith, ready-range (start (turn (expanded (c .before .before .before .before .before .before .before))) .pre .0))
 
 slice-write-seen-2 : tie.Need-slice-write-seen-2 Inv-loop μ-loop Inv-walk μ-walk
 slice-write-seen-2 c =
-    let l = c .before .before .before in
-    omega (arith, ready-range (start (turn (expanded l)) .pre .0), l .loop .inv .4 .long)
+    let l = c .before .before .before .before .before .before .before in
+    omega (arith, ready-range (start (turn (expanded l)) .pre .0), l .loop .inv .3 .long)
 
 least-requires : tie.Need-least-requires Inv-loop μ-loop Inv-walk μ-walk
 least-requires c κs = search needs
 
-add-friend : tie.Need-add-friend Inv-loop μ-loop Inv-walk μ-walk
-add-friend c = omega (arith, ready-range (start (turn (expanded (c .before .before .before .before .before))) .pre .0))
-
-friend-requires-2 : tie.Need-friend-requires-2 Inv-loop μ-loop Inv-walk μ-walk
-friend-requires-2 c κs =
-    let l = c .before .before .before .before .before in
-    let h = chosen (expanded l) in
-    let p = start (turn (expanded l)) .pre .0 in
-    let e = p .counts .members in
-    (p, omega (arith, h .member), omega (arith, h .small, length-set (l .loop .seen) (l .loop .k) 1, l .loop .inv .4 .long), omega arith)
+add-k : tie.Need-add-k Inv-loop μ-loop Inv-walk μ-walk
+add-k c = omega (arith, ready-range (start (turn (expanded (c .before .before .before .before .before .before .before .before))) .pre .0))
 
 loop-less : tie.Need-loop-less Inv-loop μ-loop Inv-walk μ-walk
-loop-less c = omega (arith, c .friend2 .ensures .onward)
+loop-less c = omega (arith, c .before .before .before .before .friend .ensures .onward)
 
 loop-again : tie.Need-loop-again Inv-loop μ-loop Inv-walk μ-walk
 loop-again c =
-    let l = c .before .before .before .before .before .before in
+    let f = c .before .before .before .before .friend .ensures in
+    let l = c .before .before .before .before .before .before .before .before in
     let i = l .loop .inv in
-    let t = l .before .before .before .before .before in
+    let t = l .before .before .before in
     let e = start (turn (expanded l)) .pre .0 .counts .members in
     let small = chosen (expanded l) .small in
-    let f = c .friend2 .ensures in
-    let (friend, unseen) = i .3 (c .before .before .before .before .if3 .taken) in
-    let x = expand-mark (i .4) (omega arith) (t .if2 .taken) (t .before .allows .ensures) friend small unseen (λ q. omega (arith, c .before .before .before .if4 .left)) in
-    (f .within, omega (arith, c .before .before .least .ensures), nobody-below (i .4) (omega arith) (i .2) (c .before .before .least .ensures), f .stops, expand-to x (f .passed))
+    let (friend, unseen) = f .stops (c .before .before .if4 .taken) in
+    let x = expand-to (i .3) (f .passed) in
+    let y = expand-mark x (omega arith) (t .if2 .taken) (t .before .allows .ensures) friend small unseen (c .before .if5 .left) in
+    (omega arith, omega (arith, c .least .ensures), nobody-below x (omega arith) (i .2) (c .least .ensures), y)
+
+loop-less-2 : tie.Need-loop-less-2 Inv-loop μ-loop Inv-walk μ-walk
+loop-less-2 c = omega arith
+
+loop-again-2 : tie.Need-loop-again-2 Inv-loop μ-loop Inv-walk μ-walk
+loop-again-2 c =
+    let f = c .before .before .friend .ensures in
+    let i = c .before .before .before .before .before .before .loop .inv in
+    (f .within, i .1, i .2, expand-to (i .3) (f .passed))
 
 same-length : tie.Need-same-length Inv-loop μ-loop Inv-walk μ-walk
 same-length c =
@@ -175,17 +178,17 @@ returns c =
 
 same-length-2 : tie.Need-same-length-2 Inv-loop μ-loop Inv-walk μ-walk
 same-length-2 c =
-    let l = c .before .before .before in
-    omega (arith, start (turn (expanded l)) .pre .3 .long, l .loop .inv .4 .long)
+    let l = c .before .before .before .before .before .before .before in
+    omega (arith, start (turn (expanded l)) .pre .3 .long, l .loop .inv .3 .long)
 
 returns-2 : tie.Need-returns-2 Inv-loop μ-loop Inv-walk μ-walk
 returns-2 c =
-    let l = c .before .before .before in
-    let t = l .before .before .before .before .before in
+    let f = c .before .before .before .friend in
+    let l = c .before .before .before .before .before .before .before in
+    let t = l .before .before .before in
     let e = start (turn (expanded l)) .pre .0 .counts .members in
-    let f = expand-met (l .loop .inv .4) (omega arith) (t .if2 .taken) (t .before .allows .ensures) (l .loop .inv .3 (c .before .if3 .taken) .0) in
-    let u : l .loop .k ≡ start (turn (expanded l)) .args .u = omega (arith, c .if4 .taken) in
-    record { found = λ y. rw (← u) f; ended = λ n. absurd (true≢false n) }
+    let g = expand-met (expand-to (l .loop .inv .3) (f .ensures .passed)) (omega arith) (t .if2 .taken) (t .before .allows .ensures) (f .ensures .stops (c .before .if4 .taken) .0) in
+    record { found = λ y. rw (← (c .if5 .taken)) g; ended = λ n. absurd (true≢false n) }
 
 pub walk-spec : {M : Type 1} → statement M
 walk-spec =
@@ -197,19 +200,22 @@ walk-spec =
     μ-walk
     walk-holds
     waiting-requires
+    mul-seen
     slice-write-seen
     allows-requires
     first-unseen-requires
-    friend-requires
     loop-holds
     walk-less
     walk-again
+    friend-requires
+    mul-seen-2
     slice-write-seen-2
     least-requires
-    add-friend
-    friend-requires-2
+    add-k
     loop-less
     loop-again
+    loop-less-2
+    loop-again-2
     walk-less-2
     walk-again-2
     same-length

@@ -22,7 +22,7 @@ returns-2 : tie.Need-returns-2
 returns-2 c =
     let s = c .before .before .before .before .before in
     let q = c .before .state in
-    let e : q .result % 16 ≡ q .result = omega (arith, ready-range (s .pre .0)) in
+    let e : q .result % 32 ≡ q .result = omega (arith, ready-range (s .pre .0)) in
     c .marked .ensures
     ∙ ap (bit (s .args .c .marks)) e
     ∙ friends-marked (s .pre .0) (s .args .u) (s .args .v) (q .result) (s .pre .1) (s .pre .2) (c .before .before .if1 .left) (q .ensures .0) (q .ensures .1)

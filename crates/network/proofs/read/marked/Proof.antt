@@ -13,7 +13,7 @@ shr-result : tie.Need-shr-result
 shr-result c = search needs
 
 returns : tie.Need-returns
-returns c = ap (λ (y : ℕ). eqb y 1) (shr-and-one (c .args .marks) (c .args .q % 16))
+returns c = ap (λ (y : ℕ). eqb y 1) (shr-and-one (c .args .marks) (c .args .q % 32))
 
 pub marked-spec : {M : Type 1} → statement M
 marked-spec = tie.close (tie.spec cast-result shr-result returns)

@@ -1,0 +1,109 @@
+use Prim.Native.Nat.{_-_, _≤_}
+use mathlib.Core.Path.{_≡_}
+use mathlib.Core.Logic.{⊎-elim}
+use native.Mathlib.Omega.{arith}
+use borrow.Author.Needs.{needs}
+use Rattle.network.specs.Ready.{graphOf}
+use Rattle.network.proofs.Reading.{ready-range, pair-inside, friends-byte}
+use Rattle.next_friend.specs.Spread.{Spread, Run}
+use Rattle.next_friend.proofs.Spreading.{spread-none, spread-pass, spread-stranger, spread-mark}
+use Rattle.next_friend.proofs.marks.below.Statement.{statement}
+use Rattle.next_friend.proofs.marks.below.Tie as tie
+
+abbrev Inv-loop : tie.InvT-loop
+Inv-loop scheme c network m mark from marks₀ at k₀ marks k = (from ≤ k) × (k ≤ m) × Spread (graphOf scheme network) (Run m from k) mark marks₀ marks
+
+abbrev μ-loop : tie.MeasureT-loop
+μ-loop scheme c network m mark from marks₀ at k₀ marks k = m - k
+
+-- where the function begins
+abbrev start : tie.At-loop Inv-loop μ-loop → tie.Start Inv-loop μ-loop
+start a = a .before .before .before .before .before
+
+pairs-requires : tie.Need-pairs-requires Inv-loop μ-loop
+pairs-requires c κs = omega (arith, ready-range (c .before .before .before .pre .0))
+
+loop-holds : tie.Need-loop-holds Inv-loop μ-loop
+loop-holds c =
+    let p = c .before .before .before .before .pre in
+    (omega arith, omega arith, spread-none (p .3) (λ j k t. absurd (omega (arith, t .1, t .2))))
+
+add-marked : tie.Need-add-marked Inv-loop μ-loop
+add-marked c = omega (arith, ready-range (start (c .before) .pre .0))
+
+shared-slice-read-marked : tie.Need-shared-slice-read-marked Inv-loop μ-loop
+shared-slice-read-marked c =
+    let a = c .before .before in
+    omega (arith, pair-inside (start a .pre .0) (a .loop .k) (start a .args .m) (c .before .loop-test .taken) (start a .pre .1))
+
+marked-requires : tie.Need-marked-requires Inv-loop μ-loop
+marked-requires c κs = search needs
+
+mul-if2 : tie.Need-mul-if2 Inv-loop μ-loop
+mul-if2 c = omega (arith, ready-range (start (c .before .before .before .before) .pre .0))
+
+slice-read-if2 : tie.Need-slice-read-if2 Inv-loop μ-loop
+slice-read-if2 c =
+    let a = c .before .before .before .before .before in
+    omega (arith, ready-range (start a .pre .0), a .loop .inv .2 .size)
+
+mul-marks : tie.Need-mul-marks Inv-loop μ-loop
+mul-marks c = omega (arith, ready-range (start (c .before .before .before .before .before .before) .pre .0))
+
+slice-write-marks : tie.Need-slice-write-marks Inv-loop μ-loop
+slice-write-marks c =
+    let a = c .before .before .before .before .before .before in
+    omega (arith, ready-range (start a .pre .0), a .loop .inv .2 .size)
+
+add-k : tie.Need-add-k Inv-loop μ-loop
+add-k c = omega arith
+
+loop-less : tie.Need-loop-less Inv-loop μ-loop
+loop-less c = omega arith
+
+loop-again : tie.Need-loop-again Inv-loop μ-loop
+loop-again c =
+    let a = c .before .before .before .before in
+    let s = start a in
+    let x = a .loop .inv .2 in
+    let r = ready-range (s .pre .0) in
+    let e = s .pre .0 .counts .members in
+    let l = c .before .before .before .loop-test .taken in
+    let f = friends-byte (s .pre .0) (a .loop .k) (s .args .m) _ l (s .pre .1) (omega (arith, a .before .pairs .ensures .0)) (c .before .marked .ensures) .0 in (
+      omega arith,
+      omega arith,
+      ⊎-elim
+          (λ w. rw (w .3) (spread-mark x (a .loop .inv .0) (omega arith) (omega arith) (omega arith) (s .pre .2) (w .2 .taken) f (w .0 .taken)))
+          (⊎-elim (λ w. rw (w .3) (spread-pass x (w .2 .left))) (λ w. rw (w .1) (spread-stranger x f (w .0 .left))))
+          (c .if1 .came),
+    )
+
+same-length : tie.Need-same-length Inv-loop μ-loop
+same-length c = omega (arith, c .before .loop .inv .2 .size)
+
+returns : tie.Need-returns Inv-loop μ-loop
+returns c =
+    let a = c .before in
+    let e : a .loop .k ≡ start a .args .m = omega arith in
+    rw e at (a .loop .inv .2)
+
+pub below-spec : {M : Type 1} → statement M
+below-spec =
+    tie.close
+    (tie.spec
+    Inv-loop
+    μ-loop
+    pairs-requires
+    loop-holds
+    add-marked
+    shared-slice-read-marked
+    marked-requires
+    mul-if2
+    slice-read-if2
+    mul-marks
+    slice-write-marks
+    add-k
+    loop-less
+    loop-again
+    same-length
+    returns)
