@@ -1,7 +1,7 @@
 -- Friend rows, word by word.
 use Prim.Native.Nat.{ℕ, zero, suc, _+_, _-_, _*_, _/_, _%_, _^_, _≤_, _<_}
 use mathlib.Core.Path.{_≡_, sym, ap, _∙_}
-use mathlib.Core.Bool.{false}
+use mathlib.Core.Bool.{Bool, true, false}
 use mathlib.Core.List.{List, [], _∷_}
 use mathlib.Core.Logic.{_⊎_, ⊎-elim}
 use native.Mathlib.Nat.{mod-lt, div-add-mod'}
@@ -9,20 +9,20 @@ use native.Mathlib.Numerals.{add-one}
 use native.Mathlib.Omega.{arith}
 use native.Mathlib.Decide.{decLt}
 use borrow.Author.Count.{below-more}
-use lib.Bits.{bitAnd, bitOr}
+use lib.Bits.{bitOr}
 use lib.ListN.{getD}
-use Rattle.model.specs.Bytes.{digit, bit}
+use Rattle.model.specs.Bytes.{bit}
 use Rattle.model.specs.Graph.{Graph}
-use Rattle.model.proofs.Bits.{digit-lt, digit-of-zero, bit-yes, bit-no, shr-and-one}
+use Rattle.model.proofs.Bits.{digit-of-zero, bit-no}
 use Rattle.model.proofs.Places.{pairs-suc}
 use Rattle.model.proofs.Sets.{Added, added, left-out, none-in-zero}
-use Rattle.model.specs.Network.{pairs, pairPlace, held, stateOf}
-use Rattle.model.specs.SchemeBytes.{n as members, schemeOf}
+use Rattle.model.specs.Network.{pairs}
+use Rattle.model.specs.SchemeBytes.{n as members}
 use Rattle.tables.specs.declared.Summary.{Summary}
 use Rattle.network.specs.Ready.{Ready, graphOf}
 use Rattle.sets.specs.Rows.{rowBit, FriendRow}
 use Rattle.rows.specs.Words.{FirstBits}
-use Rattle.network.proofs.Reading.{ready-range, friends-marked, friends-outside, pair-held}
+use Rattle.network.proofs.Reading.{friends-byte, friends-outside}
 
 -- ---- a word, bit by bit
 
@@ -39,65 +39,36 @@ first-next {g} {u} {from} {n} {word} {word'} f a = record {
 pub first-skip : {g : Graph} {u from n word : ℕ} → FirstBits g u from n word → g .friends u (from + n) ≡ false → FirstBits g u from (n + 1) word
 first-skip {n = n} {word = word} f e = first-next f (rw e (left-out word n (f .none-above)))
 
-module _ {b net : List ℕ} {c : Summary} (ready : Ready b c net) where
-  abbrev marks : ℕ
-  marks = c .marks
+-- what the code does with the bit of a member who is a friend or not
+abbrev pub BitPut : Bool → ℕ → ℕ → ℕ → Type 0
+BitPut friend n word word' = ((friend ≡ true) × (word' ≡ bitOr word (1 * 2 ^ n % 2 ^ 64))) ⊎ ((friend ≡ false) × (word' ≡ word))
 
-  -- what the code does with the bit of a member whose state is q
-  abbrev pub BitPut : ℕ → ℕ → ℕ → ℕ → Type 0
-  BitPut q n word word' =
-      ((bitAnd (marks / 2 ^ (q % 16)) 1 ≡ 1) × (word' ≡ bitOr word (1 * 2 ^ n % 2 ^ 64)))
-      ⊎ ((bitAnd (marks / 2 ^ (q % 16)) 1 ≡ 1 → ⊥) × (word' ≡ word))
+pub first-more : (g : Graph) (u from n word word' : ℕ) {friend : Bool} → n < 64 → friend ≡ g .friends u (from + n) → FirstBits g u from n word
+    → BitPut friend n word word'
+    → FirstBits g u from (n + 1) word'
+first-more g u from n word word' l e f put =
+    first-next f
+    (⊎-elim (λ w. rw (w .1, sym e ∙ w .0) (added 64 word n l (f .none-above))) (λ w. rw (w .1, sym e ∙ w .0) (left-out word n (f .none-above))) put)
 
-  pub first-more : (u from n q word word' : ℕ) → n < 64 → u < c .members → from + n < c .members → (u ≡ from + n → ⊥)
-      → q ≡ stateOf (held (schemeOf b) net) u (from + n)
-      → q < c .states
-      → FirstBits (graphOf b net) u from n word
-      → BitPut q n word word'
-      → FirstBits (graphOf b net) u from (n + 1) word'
-  first-more u from n q word word' l i j d e s f put = first-next f (⊎-elim set kept put)
-    where
-      same : q % 16 ≡ q
-      same = omega (arith, ready-range ready)
+-- the bit of member m above u, whose state stands at a place; the next one's place is m further
+pub first-above : {b net : List ℕ} {c : Summary} (ready : Ready b c net) (u from m at word word' : ℕ) {friend : Bool} → from ≤ m → m < from + 64 → u < m
+    → m < c .members
+    → at ≡ pairs m + u
+    → friend ≡ bit (c .marks) (getD net at 0 % 32)
+    → FirstBits (graphOf b net) u from (m - from) word
+    → BitPut friend (m - from) word word'
+    → FirstBits (graphOf b net) u from (m + 1 - from) word' × (at + m ≡ pairs (m + 1) + u)
+first-above {b} {net} ready u from m at word word' {friend} a l d i p e f put =
+    (rw next (first-more (graphOf b net) u from (m - from) word word' (omega arith) (rw here (friends-byte ready u m at d i p e .0)) f put), further)
+  where
+    here : from + (m - from) ≡ m
+    here = omega arith
 
-      friends : bit marks (q % 16) ≡ graphOf b net .friends u (from + n)
-      friends = ap (bit marks) same ∙ friends-marked ready u (from + n) q i j d e s
+    next : m + 1 - from ≡ m - from + 1
+    next = omega arith
 
-      set : (bitAnd (marks / 2 ^ (q % 16)) 1 ≡ 1) × (word' ≡ bitOr word (1 * 2 ^ n % 2 ^ 64)) → Added word n (graphOf b net .friends u (from + n)) word'
-      set (y, w) = rw (w, ← friends, bit-yes marks (q % 16) (sym (shr-and-one marks (q % 16)) ∙ y)) (added 64 word n l (f .none-above))
-
-      kept : (bitAnd (marks / 2 ^ (q % 16)) 1 ≡ 1 → ⊥) × (word' ≡ word) → Added word n (graphOf b net .friends u (from + n)) word'
-      kept (y, w) =
-          let no : digit marks (q % 16) ≡ 1 → ⊥ = λ h. y (shr-and-one marks (q % 16) ∙ h) in
-          let z : digit marks (q % 16) ≡ 0 = omega (arith, no, digit-lt marks (q % 16)) in
-          rw (w, ← friends, bit-no marks (q % 16) z) (left-out word n (f .none-above))
-
-  -- the bit of member m above u, whose state stands at a place; the next one's place is m further
-  pub first-above : (u from m at word word' : ℕ) → from ≤ m → m < from + 64 → u < m → m < c .members → at ≡ pairs m + u
-      → FirstBits (graphOf b net) u from (m - from) word
-      → BitPut (getD net at 0) (m - from) word word'
-      → FirstBits (graphOf b net) u from (m + 1 - from) word' × (at + m ≡ pairs (m + 1) + u)
-  first-above u from m at word word' a l d i p f put =
-      let (e, x, s) = pair-held ready u (from + n) (omega arith) j in
-      (rw next (first-more u from n (getD net at 0) word word' (omega arith) (omega arith) j (λ h. omega arith) (same ∙ e) (rw same s) f put), further)
-    where
-      n : ℕ
-      n = m - from
-
-      here : from + n ≡ m
-      here = omega arith
-
-      next : m + 1 - from ≡ n + 1
-      next = omega arith
-
-      j : from + n < c .members
-      j = omega arith
-
-      same : getD net at 0 ≡ getD net (pairPlace u (from + n)) 0
-      same = ap (λ (k : ℕ). getD net k 0) (p ∙ ap (λ (k : ℕ). pairs k + u) (sym here))
-
-      further : at + m ≡ pairs (m + 1) + u
-      further = rw (add-one m) (omega (arith, pairs-suc m))
+    further : at + m ≡ pairs (m + 1) + u
+    further = rw (add-one m) (omega (arith, pairs-suc m))
 
 -- nobody is there above
 pub first-all : (b net : List ℕ) (u from n word : ℕ) → n ≤ 64 → ((k : ℕ) → n ≤ k → k < 64 → members b ≤ from + k)

@@ -17,7 +17,7 @@ fn lesser(scheme: &[u8], c: Summary, network: &[u8], u: usize, from: usize, end:
     let mut bits: u64 = 0;
     let mut m: usize = 0;
     while m < end {
-        if (c.marks >> (network[at + m] % 16)) & 1 == 1 {
+        if network::read::marked(c.marks, network[at + m]) {
             bits = bits | (1u64 << m);
         }
         m += 1;
@@ -44,7 +44,7 @@ fn greater(
     let mut m = from + start;
     let mut at = network::read::pairs(m) + u;
     while m < end {
-        if (c.marks >> (network[at] % 16)) & 1 == 1 {
+        if network::read::marked(c.marks, network[at]) {
             bits = bits | (1u64 << (m - from));
         }
         at += m;

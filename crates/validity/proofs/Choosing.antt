@@ -2,16 +2,16 @@
 use Prim.Native.Nat.{ℕ, zero, suc, _+_, _*_, _-_, _/_, _%_, _^_, _<_, _≤_}
 use mathlib.Core.Bool.{Bool, true, false, _&&_, _||_}
 use mathlib.Core.List.{List}
-use mathlib.Core.Logic.{_⊎_, inl, inr, ⊎-elim}
+use mathlib.Core.Logic.{_⊎_, _↔_, inl, inr, ⊎-elim}
 use mathlib.Core.Path.{_≡_, refl, sym, ap, _∙_}
 use native.Mathlib.Nat.{two-pow-succ}
-use native.Mathlib.Decide.{ℕ-discrete}
+use native.Mathlib.Decide.{ℕ-discrete, decLt}
 use native.Mathlib.Omega.{arith}
 use borrow.Author.Count.{below-more}
 use lib.Bits.{bitAnd, bitOr, and-le-l}
-use lib.Pow.{pow-pos}
+use lib.Pow.{pow-pos, pow-mono}
 use Rattle.model.specs.Bytes.{byte, digit, bit}
-use Rattle.model.proofs.Bits.{digit-zero, digit-shr, digit-suc, digit-and, digit-or, digit-lt, digit-of-zero, bit-yes, yes-bit, bit-and, bit-or, set-same, set-other, shl-one, below-no-bit, set-ext}
+use Rattle.model.proofs.Bits.{digit-above, digit-zero, digit-shr, digit-suc, digit-and, digit-or, digit-lt, digit-of-zero, bit-yes, yes-bit, bit-and, bit-or, set-same, set-other, shl-one, below-no-bit, set-ext}
 use Rattle.model.proofs.Deciding.{Says, iff}
 use Rattle.network.proofs.Reading.{stride-next}
 use Rattle.validity.specs.Chosen.{Chosen}
@@ -25,8 +25,19 @@ ones (suc k) (suc q) h =
     let half : (2 ^ suc k - 1) / 2 ≡ 2 ^ k - 1 = omega (arith, two-pow-succ k, pow-pos k) in
     digit-suc (2 ^ suc k - 1) q ∙ ap (λ (x : ℕ). digit x q) half ∙ ones k q (omega arith)
 
-pub all-up-to : (most p : ℕ) → most < 32 → p ≤ most → bit (4294967295 / 2 ^ (31 - most)) p ≡ true
-all-up-to most p a b = bit-yes (4294967295 / 2 ^ (31 - most)) p (digit-shr 4294967295 (31 - most) p ∙ ones 32 (31 - most + p) (omega arith))
+pub up-to : (most p : ℕ) → most < 32 → (bit (4294967295 / 2 ^ (31 - most)) p ≡ true) ↔ (p ≤ most)
+up-to most p a = (λ h. go h (decLt most p), λ b. bit-yes (4294967295 / 2 ^ (31 - most)) p (same ∙ ones 32 (31 - most + p) (omega arith)))
+  where
+    same : digit (4294967295 / 2 ^ (31 - most)) p ≡ digit 4294967295 (31 - most + p)
+    same = digit-shr 4294967295 (31 - most) p
+
+    go : bit (4294967295 / 2 ^ (31 - most)) p ≡ true → Dec (most < p) → p ≤ most
+    go h (no n) = omega arith
+    go h (yes n) =
+        let later : 32 ≤ 31 - most + p = omega arith in
+        let beyond : 2 ^ 32 ≤ 2 ^ (31 - most + p) = pow-mono later in
+        let none : digit 4294967295 (31 - most + p) ≡ 0 = digit-above (31 - most + p) (omega arith) in
+        absurd (omega (arith, yes-bit (4294967295 / 2 ^ (31 - most)) p h, same, none))
 
 -- ---- `set & mask == set`
 

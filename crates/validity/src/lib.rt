@@ -2,6 +2,7 @@
 use tables::Summary;
 ghost use mathlib.Core.Path.{_≡_};
 ghost use mathlib.Core.Bool.{true};
+ghost use mathlib.Core.Logic.{_↔_};
 ghost use Prim.Native.Nat.{ℕ, _+_, _*_, _<_, _≤_};
 ghost use lib.ListN.{length};
 ghost use Rattle.model.specs.Decides.{Decides};
@@ -14,7 +15,7 @@ ghost use Rattle.validity.specs.Chosen.{Chosen};
 // All policies up to a number, as a set.
 fn up_to(most: u8) -> u32
     requires { ⌜ most < 32 ⌝ }
-    ensures { λ r. ⌜ ((p : ℕ) → p ≤ most → bit r p ≡ true) ⌝ }
+    ensures { λ r. ⌜ ((p : ℕ) → (bit r p ≡ true) ↔ (p ≤ most)) ⌝ }
 {
     4294967295u32 >> (31 - most)
 }

@@ -38,17 +38,14 @@ loop-holds c =
     let e : s .args .from + s .args .start - s .args .from ≡ s .args .start = omega arith in
     (omega arith, omega arith, rw e (s .pre .4), rw (c .pairs .ensures .0))
 
-shared-slice-read-if1 : tie.Need-shared-slice-read-if1 Inv-loop μ-loop
-shared-slice-read-if1 c =
+shared-slice-read-marked : tie.Need-shared-slice-read-marked Inv-loop μ-loop
+shared-slice-read-marked c =
     let s = c .before .before .before .before .before .before .before in
     let i = c .before .before .loop in
     omega (arith, i .inv .3, pair-inside (s .pre .0) (s .args .u) (i .m) (omega arith) (omega arith))
 
-cast-if1 : tie.Need-cast-if1 Inv-loop μ-loop
-cast-if1 c = search needs
-
-shr-if1 : tie.Need-shr-if1 Inv-loop μ-loop
-shr-if1 c = search needs
+marked-requires : tie.Need-marked-requires Inv-loop μ-loop
+marked-requires c κs = search needs
 
 sub-bits : tie.Need-sub-bits Inv-loop μ-loop
 sub-bits c = omega arith
@@ -70,7 +67,7 @@ loop-again c =
     let s = c .before .before .before .before .before .before .before .before .before in
     let i = c .before .before .before .before .loop in
     let (f, p) =
-    first-above (s .pre .0) (s .args .u) (s .args .from) (i .m) (i .at) (i .bits) (c .if1 .bits) (omega arith) (omega arith) (omega arith) (omega arith) (i .inv .3) (i .inv .2)
+    first-above (s .pre .0) (s .args .u) (s .args .from) (i .m) (i .at) (i .bits) (c .if1 .bits) (omega arith) (omega arith) (omega arith) (omega arith) (i .inv .3) (c .before .marked .ensures) (i .inv .2)
     (⊎-elim (λ w. inl (w .0 .taken, w .1)) (λ w. inr (w .0 .left, w .1)) (c .if1 .came)) in
     (omega arith, omega arith, f, p)
 
@@ -93,9 +90,8 @@ greater-spec =
     pairs-requires
     add-at
     loop-holds
-    shared-slice-read-if1
-    cast-if1
-    shr-if1
+    shared-slice-read-marked
+    marked-requires
     sub-bits
     shl-bits
     add-at-2

@@ -1,13 +1,12 @@
-use Prim.Native.Nat.{ℕ, _+_, _-_, _≤_}
-use mathlib.Core.Path.{_≡_, ap, _∙_}
+use Prim.Native.Nat.{_+_, _-_, _≤_}
+use mathlib.Core.Path.{_≡_}
 use mathlib.Core.Logic.{inl, inr, ⊎-elim}
 use native.Mathlib.Omega.{arith}
 use borrow.Author.Needs.{needs}
-use lib.ListN.{getD}
 use Rattle.model.specs.Network.{pairPlace}
 use Rattle.network.specs.Ready.{graphOf}
 use Rattle.rows.specs.Words.{FirstBits}
-use Rattle.network.proofs.Reading.{ready-range, pair-inside, pair-held}
+use Rattle.network.proofs.Reading.{ready-range, pair-inside, friends-byte}
 use Rattle.rows.proofs.RowBits.{first-none, first-more}
 use Rattle.rows.proofs.lesser.Statement.{statement}
 use Rattle.rows.proofs.lesser.Tie as tie
@@ -27,20 +26,17 @@ add-at c = search needs
 loop-holds : tie.Need-loop-holds Inv-loop μ-loop
 loop-holds c = (first-none _ _ _, omega arith)
 
-add-if1 : tie.Need-add-if1 Inv-loop μ-loop
-add-if1 c = search needs
+add-marked : tie.Need-add-marked Inv-loop μ-loop
+add-marked c = search needs
 
-shared-slice-read-if1 : tie.Need-shared-slice-read-if1 Inv-loop μ-loop
-shared-slice-read-if1 c =
+shared-slice-read-marked : tie.Need-shared-slice-read-marked Inv-loop μ-loop
+shared-slice-read-marked c =
     let s = c .before .before .before .before .before .before in
     let k = s .args .from + c .before .before .loop .m in
     omega (arith, c .before .before .before .pairs .ensures .0, pair-inside (s .pre .0) k (s .args .u) (omega arith) (s .pre .1))
 
-cast-if1 : tie.Need-cast-if1 Inv-loop μ-loop
-cast-if1 c = search needs
-
-shr-if1 : tie.Need-shr-if1 Inv-loop μ-loop
-shr-if1 c = search needs
+marked-requires : tie.Need-marked-requires Inv-loop μ-loop
+marked-requires c κs = search needs
 
 shl-bits : tie.Need-shl-bits Inv-loop μ-loop
 shl-bits c = omega arith
@@ -55,18 +51,10 @@ loop-again : tie.Need-loop-again Inv-loop μ-loop
 loop-again c =
     let s = c .before .before .before .before .before .before .before .before in
     let i = c .before .before .before .before .loop in
-    let from = s .args .from in
-    let u = s .args .u in
-    let net = s .args .network .now in
-    let pairs = c .before .before .before .before .before .pairs in
-    let (x, e, l) = pair-held (s .pre .0) (from + i .m) u (omega arith) (s .pre .1) in
-    let at : pairs .result + from + i .m ≡ pairPlace (from + i .m) u = omega (arith, pairs .ensures .0) in
-    let same : getD net (pairs .result + from + i .m) 0 ≡ getD net (pairPlace (from + i .m) u) 0 = ap (λ (p : ℕ). getD net p 0) at in (
-      first-more (s .pre .0) u from (i .m) (getD net (pairs .result + from + i .m) 0) (i .bits) (c .if1 .bits) (omega arith) (s .pre .1) (omega arith)
-          (λ h. omega arith)
-          (same ∙ e)
-          (rw same l)
-          (i .inv .0)
+    let a = s .args in
+    let at : c .before .before .before .before .before .pairs .result + a .from + i .m ≡ pairPlace (a .from + i .m) (a .u) = omega (arith, c .before .before .before .before .before .pairs .ensures .0) in
+    let (_, friend) = friends-byte (s .pre .0) (a .from + i .m) (a .u) _ (omega arith) (s .pre .1) at (c .before .marked .ensures) in (
+      first-more (graphOf (a .scheme .now) (a .network .now)) (a .u) (a .from) (i .m) (i .bits) (c .if1 .bits) (omega arith) friend (i .inv .0)
           (⊎-elim (λ w. inl (w .0 .taken, w .1)) (λ w. inr (w .0 .left, w .1)) (c .if1 .came)),
       omega arith,
     )
@@ -85,10 +73,9 @@ lesser-spec =
     pairs-requires
     add-at
     loop-holds
-    add-if1
-    shared-slice-read-if1
-    cast-if1
-    shr-if1
+    add-marked
+    shared-slice-read-marked
+    marked-requires
     shl-bits
     add-m
     loop-less

@@ -1,4 +1,4 @@
-use Rattle.validity.proofs.Choosing.{all-up-to}
+use Rattle.validity.proofs.Choosing.{up-to}
 use borrow.Author.Needs.{needs}
 use Rattle.validity.proofs.up_to.Statement.{statement}
 use Rattle.validity.proofs.up_to.Tie as tie
@@ -13,7 +13,7 @@ shr-result : tie.Need-shr-result
 shr-result c = search needs
 
 returns : tie.Need-returns
-returns c = λ p l. all-up-to (c .args .most) p (c .pre) l
+returns c = λ p. up-to (c .args .most) p (c .pre)
 
 pub up-to-spec : {M : Type 1} → statement M
 up-to-spec = tie.close (tie.spec sub-result cast-result shr-result returns)

@@ -56,7 +56,7 @@ settings-offered-requires c κs =
     let s = c .before .before .before .before .before .before .before .before .before .before .before .before in
     let e = c .before .before .before .before .before .before .before .before .size .ensures .0 in
     let none = none-greater (s .args .network .now) _ _ _ (small (c .before .before .before .before .before .before .before .before .before .before)) (c .before .before .greatest2 .ensures) in
-    ((s .pre, omega (arith, e)), λ k a b. c .up-to .ensures _ (none k (omega arith) (omega arith)))
+    ((s .pre, omega (arith, e)), λ k a b. c .up-to .ensures _ .1 (none k (omega arith) (omega arith)))
 
 returns-4 : tie.Need-returns-4
 returns-4 c =
