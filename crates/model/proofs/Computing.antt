@@ -4,7 +4,7 @@ use mathlib.Core.Bool.{Bool, true, false, _&&_, _||_, not, cond}
 use mathlib.Core.List.{List, [], _∷_}
 use lib.Dec.{eqb, leb, ltb}
 use Rattle.model.specs.Bytes.{bit}
-use Rattle.model.specs.Graph.{Graph, shared}
+use Rattle.model.specs.Graph.{Graph, Degree, friendships, none, shared}
 use Rattle.model.specs.Policies.{Policy, no-one, everyone, owner-only, within, known, clique, state, both, either}
 use Rattle.model.specs.Policies.{Side, any-side, owner-lesser, owner-greater}
 use Rattle.model.specs.Finding.{Paths, World, paths}
@@ -29,6 +29,11 @@ among x (y ∷ l) = eqb x y || among x l
 unfoldable pub isWithin : Graph → ℕ → ℕ → ℕ → Bool
 isWithin g zero u v = eqb u v
 isWithin g (suc k) u v = eqb u v || some (λ m. g .friends u m && isWithin g k m v) (g .members)
+
+unfoldable pub hasDegree : Graph → ℕ → ℕ → Degree → Bool
+hasDegree g u v (friendships zero) = isWithin g zero u v
+hasDegree g u v (friendships (suc d)) = isWithin g (suc d) u v && not (isWithin g d u v)
+hasDegree g u v none = ltb u (g .members) && not (isWithin g (g .members) u v)
 
 unfoldable pub friendOfAll : Graph → ℕ → List ℕ → Bool
 friendOfAll g x [] = true

@@ -1,8 +1,9 @@
 -- Counts of those that pass a test.
 use mathlib.Core.Path.{_≡_, refl, sym, ap, ap₂, _∙_}
-use mathlib.Core.Bool.{Bool, true, false}
+use mathlib.Core.Bool.{Bool, true, false, true≢false}
 use Prim.Native.Nat.{ℕ, zero, suc, _+_, _-_, _≤_, _<_, zero-le}
-use native.Mathlib.Nat.{add-assoc, add-zero, add-suc, le-suc, le-refl, lt-of-lt-of-le}
+use native.Mathlib.Nat.{add-assoc, add-zero, add-suc, le-suc, le-refl, lt-of-lt-of-le, not-suc-le-zero}
+use native.Mathlib.Decide.{ℕ-discrete}
 use native.Mathlib.Omega.{arith}
 use Rattle.model.specs.Graph.{one, count}
 
@@ -47,3 +48,27 @@ count-above f n k l h =
     ∙ count-split f n (k - n)
     ∙ ap (λ (x : ℕ). count f n + x) (none (λ (m : ℕ). f (n + m)) (k - n) (λ m b. h (n + m) (omega arith)))
     ∙ add-zero (count f n)
+
+one-more : (a b : Bool) → (a ≡ true → b ≡ true) → one a ≤ one b
+one-more true true h = le-refl 1
+one-more true false h = absurd (true≢false (sym (h refl)))
+one-more false b h = zero-le
+
+count-mono : (f h : ℕ → Bool) (n : ℕ) → ((m : ℕ) → f m ≡ true → h m ≡ true) → count f n ≤ count h n
+unfolding count
+count-mono f h zero i = zero-le
+count-mono f h (suc n) i = omega (arith, count-mono f h n i, one-more (f n) (h n) (i n))
+
+-- whoever passes f passes h, and u passes h alone
+pub count-more : (f h : ℕ → Bool) (n u : ℕ) → u < n → ((m : ℕ) → f m ≡ true → h m ≡ true) → f u ≡ false → h u ≡ true
+    → count f n < count h n
+unfolding count
+count-more f h zero u l i out is = absurd (not-suc-le-zero l)
+count-more f h (suc n) u l i out is = go (ℕ-discrete u n) (λ b. count-more f h n u b i out is)
+  where
+    go : Dec (u ≡ n) → (u < n → count f n < count h n) → count f n + one (f n) < count h n + one (h n)
+    go (yes e) ih =
+        let a : one (f n) ≡ 0 = ap one (rw e at out) in
+        let b : one (h n) ≡ 1 = ap one (rw e at is) in
+        omega (arith, count-mono f h n i)
+    go (no d) ih = omega (arith, ih (omega arith), one-more (f n) (h n) (i n))

@@ -58,6 +58,13 @@ is-so {b} {P} d p = go b (d .no-if)
     go true n = refl
     go false n = absurd (n refl p)
 
+pub is-not : {b : Bool} {P : Type 0} → Says b P → (P → ⊥) → b ≡ false
+is-not {b} {P} d n = go b (d .yes-if)
+  where
+    go : (x : Bool) → (x ≡ true → P) → x ≡ false
+    go true y = absurd (n (y refl))
+    go false y = refl
+
 pub iff : {b : Bool} {P Q : Type 0} → (P → Q) → (Q → P) → Says b P → Says b Q
 iff f g d = record { yes-if = λ e. f (d .yes-if e); no-if = λ e q. d .no-if e (g q) }
 
@@ -162,7 +169,7 @@ mutual-below g [] m = tt
 mutual-below g (x ∷ l) (b, f, m) = (b, mutual-below g l m)
 
 module _ (g : Graph) (inside : Inside g) where
-  is-within : (k u v : ℕ) → Says (isWithin g k u v) (Within g k u v)
+  pub is-within : (k u v : ℕ) → Says (isWithin g k u v) (Within g k u v)
   unfolding isWithin
   is-within zero u v = iff (λ e. ([], omega arith, e)) from (is-eq u v)
     where

@@ -1,22 +1,23 @@
 -- The small examples, computed.
-use Prim.Native.Nat.{_+_, _*_}
+use Prim.Native.Nat.{ℕ, _+_, _*_}
 use mathlib.Core.Path.{_≡_, refl}
 use mathlib.Core.Bool.{Bool, true, false, _&&_, not}
 use mathlib.Core.List.{List, [], _∷_}
 use borrow.Author.Tests.{eqb-true}
 use lib.Dec.{eqb}
 use lib.ListN.{getD}
-use Rattle.model.specs.Graph.{count}
+use Rattle.model.specs.Graph.{Degree, count}
 use Rattle.model.specs.Scheme.{lowestFrom}
 use Rattle.model.specs.SchemeBytes.{schemeOf}
 use Rattle.model.specs.Network.{fresh, pairPlace, held, world}
 use Rattle.model.specs.Requests.{writes, those, put, granted}
 use Rattle.model.specs.Standard.{standard, standardBytes}
-use Rattle.model.specs.Examples.{small, joins, Admission, AllAdmissions, admissions, four, Judgement, AllJudged, judgements, Effects, freshBytes, Layout}
-use Rattle.model.proofs.Computing.{some, every, among, isWithin, friendOfAll, allFriends, someList, isClique, onSide, admits, stands, begins, goes, reached, closed, found, sure, finds, allows, first, tests, asks}
+use Rattle.model.specs.Examples.{small, joins, Admission, AllAdmissions, admissions, four, Judgement, AllJudged, judgements, degrees, AllDegrees, Effects, freshBytes, Layout}
+use Rattle.model.proofs.Computing.{some, every, among, isWithin, hasDegree, friendOfAll, allFriends, someList, isClique, onSide, admits, stands, begins, goes, reached, closed, found, sure, finds, allows, first, tests, asks}
 use Rattle.model.proofs.Deciding.{is-true, is-eq, is-lt, conj, negated, every-holds, is-admitted, Inside}
 use Rattle.model.proofs.Places.{pair-before}
-use Rattle.model.proofs.Judging.{judged}
+use Rattle.model.proofs.Judging.{judged, world-inside}
+use Rattle.model.proofs.Degrees.{has-degree}
 
 small-inside : Inside small
 small-inside u m e = conj (conj (conj (is-lt u 5) (is-lt m 5)) (negated (is-eq u m))) (is-true (joins u m)) .yes-if e .0 .0 .1
@@ -69,6 +70,21 @@ judgements-computed = refl
 
 pub judgements-hold : AllJudged judgements
 judgements-hold = rw judgements-computed at (all-judged judgements judgements-sure)
+
+degrees-computed : List (ℕ × ℕ × Degree) → Bool
+degrees-computed [] = true
+degrees-computed ((u, v, d) ∷ rows) = hasDegree (world (standard 4) four .graph) u v d && degrees-computed rows
+
+all-degrees : (l : List (ℕ × ℕ × Degree)) → degrees-computed l ≡ true → AllDegrees l
+unfolding degrees-computed
+all-degrees [] e = tt
+all-degrees ((u, v, d) ∷ rows) e =
+    let (h, rest) = conj (is-true (hasDegree (world (standard 4) four .graph) u v d)) (is-true (degrees-computed rows)) .yes-if e in
+    (has-degree (world (standard 4) four .graph) (world-inside (standard 4) four) u v d h, all-degrees rows rest)
+
+pub degrees-hold : AllDegrees degrees
+unfolding degrees-computed some isWithin hasDegree
+degrees-hold = all-degrees degrees refl
 
 pub effects : Effects
 unfolding put

@@ -8,10 +8,11 @@ use lib.ListN.{length, take, drop, set, take-append-drop, length-append, length-
 use lib.Seq.{length-take-le, take-at, drop-at, drop-drop, drop-set-lt}
 use Rattle.model.specs.Scheme.{Scheme}
 use Rattle.model.specs.SchemeBytes.{schemeOf, Accepted}
-use Rattle.model.specs.Network.{Maps, held}
+use Rattle.model.specs.Network.{Maps, held, world}
 use Rattle.model.specs.Requests.{Request, event, set-policy, find, list, view, writes, granted}
-use Rattle.model.specs.Calls.{puts, callNeeds, FrontOnly, Left, ListAnswered, LengthOf}
+use Rattle.model.specs.Calls.{puts, callNeeds, FrontOnly, Left, ListAnswered, degreeNumber, DegreeAnswered, LengthOf}
 use Rattle.model.proofs.Answering.{answers-unique}
+use Rattle.model.proofs.Degrees.{degree-once}
 
 -- the list stands at the front, and behind it what stood there
 pub filled : {count : ℕ} {out after : List ℕ} (l : List ℕ) → FrontOnly count out after → take count after ≡ l
@@ -109,3 +110,19 @@ list-once b net v u out count k k' after after' n n' f g =
     counted zero (suc y) e p q c = absurd (omega arith)
     counted (suc x) zero e p q c = absurd (omega arith)
     counted (suc x) (suc y) e p q c = p .kept (λ z. omega arith) ∙ sym (q .kept (λ z. omega arith))
+
+-- one answer and one degree
+pub degree-answered-once : (b net : List ℕ) (v u degree k k' n n' : ℕ)
+    → DegreeAnswered b net v u degree k n
+    → DegreeAnswered b net v u degree k' n'
+    → (k ≡ k') × (n ≡ n')
+degree-answered-once b net v u degree k k' n n' f g =
+    let e : k ≡ k' = answers-unique (callNeeds b net (find v u)) k k' (f .answered) (g .answered) in
+    (e, same (ℕ-discrete k 0) e)
+  where
+    same : Dec (k ≡ 0) → k ≡ k' → n ≡ n'
+    same (yes z) e =
+        let (d, h, p) = f .told z in
+        let (d', h', p') = g .told (sym e ∙ z) in
+        p ∙ ap degreeNumber (degree-once (world (schemeOf b) (held (schemeOf b) net) .graph) u v d d' h h') ∙ sym p'
+    same (no r) e = f .kept r ∙ sym (g .kept (λ z. r (e ∙ z)))

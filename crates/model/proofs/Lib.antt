@@ -8,6 +8,7 @@ pub mod Places
 pub mod Computing
 pub mod Deciding
 pub mod Walking
+pub mod Degrees
 pub mod Judging
 -- schemes and networks
 pub mod Cliques

@@ -4,9 +4,10 @@ use mathlib.Core.Path.{_≡_}
 use mathlib.Core.List.{List, [], _∷_, _++_}
 use lib.ListN.{length, take, drop, set}
 use Rattle.model.specs.Answers.{Requirement, Answers}
+use Rattle.model.specs.Graph.{Degree, friendships, none, IsDegree}
 use Rattle.model.specs.Scheme.{Scheme}
 use Rattle.model.specs.SchemeBytes.{schemeOf, schemeNeeds, Accepted}
-use Rattle.model.specs.Network.{fresh, pairPlace, settingPlace, size, Laid, held, Valid}
+use Rattle.model.specs.Network.{fresh, pairPlace, settingPlace, size, Laid, held, world, Valid}
 use Rattle.model.specs.Requests.{Request, event, set-policy, find, list, view, next, needs, writes, Turn, granted}
 
 -- the bytes are a fresh network under scheme b
@@ -55,6 +56,17 @@ pub record Left (b net : List ℕ) (q : Request) (out : List ℕ) (answer count 
 pub record ListAnswered (b net : List ℕ) (v u : ℕ) (out : List ℕ) (count : ℕ) (answer : ℕ) (after : List ℕ) (count′ : ℕ) : Type 0 where
   pub left : Left b net (list v u (length out)) out answer (granted answer count′ 0) after net
   pub kept : (answer ≡ 0 → ⊥) → count′ ≡ count
+
+-- a degree in a lent place: the number of friendships, 65535 for none
+abbrev pub degreeNumber : Degree → ℕ
+degreeNumber (friendships d) = d
+degreeNumber none = 65535
+
+-- what the call degree leaves: find's requirements in find's order; a grant writes the degree, and a refusal leaves the place alone
+pub record DegreeAnswered (b net : List ℕ) (v u : ℕ) (degree answer degree′ : ℕ) : Type 0 where
+  pub answered : Answers (callNeeds b net (find v u)) answer
+  pub told : answer ≡ 0 → (d : Degree) × IsDegree (world (schemeOf b) (held (schemeOf b) net) .graph) u v d × (degree′ ≡ degreeNumber d)
+  pub kept : (answer ≡ 0 → ⊥) → degree′ ≡ degree
 
 -- the length of a network under an accepted scheme; 0 under any other
 pub record LengthOf (b : List ℕ) (r : ℕ) : Type 0 where

@@ -6,9 +6,9 @@ use mathlib.Core.List.{List, [], _∷_}
 use lib.Dec.{eqb}
 use Rattle.model.specs.Answers.{Answers}
 use Rattle.model.specs.Bytes.{bit}
-use Rattle.model.specs.Graph.{Graph}
+use Rattle.model.specs.Graph.{Graph, Degree, friendships, none, IsDegree}
 use Rattle.model.specs.Policies.{Policy, known, clique, within, state, both, either, owner-only, no-one, everyone, any-side, owner-lesser, owner-greater, Admits}
-use Rattle.model.specs.Network.{Maps, markedGraph}
+use Rattle.model.specs.Network.{Maps, markedGraph, world}
 use Rattle.model.specs.Requests.{Request, event, set-policy, find, list, view, needs, writes, does, granted}
 use Rattle.model.specs.Log.{Outcome, ended, refused, request, NextAt, placeAfter}
 use Rattle.model.specs.Calls.{Fresh, puts}
@@ -128,6 +128,14 @@ judgements =
     ∷ (set-policy 3 0 7, 12, [])
     ∷ (set-policy 3 0 12, 0, [])
     ∷ []
+
+-- two members of the four, and their degree: 0 finds 3 by search, and no friendship joins them
+abbrev pub degrees : List (ℕ × ℕ × Degree)
+degrees = (0, 0, friendships 0) ∷ (1, 0, friendships 1) ∷ (2, 0, friendships 2) ∷ (3, 0, none) ∷ []
+
+abbrev pub AllDegrees : List (ℕ × ℕ × Degree) → Type 0
+AllDegrees [] = Unit {0}
+AllDegrees ((u, v, d) ∷ rows) = IsDegree (world (standard 4) four .graph) u v d × AllDegrees rows
 
 -- what granted requests do to these maps: one pair moves by the side that acts, one setting changes, all else stays
 pub record Effects : Type 0 where

@@ -1,4 +1,4 @@
--- Friendship graphs: walks, shared friends and cliques (docs/reference.md, "Policies").
+-- Friendship graphs: walks, degrees, shared friends and cliques (docs/reference.md, "Policies").
 use Prim.Native.Nat.{ℕ, zero, suc, _+_, _<_, _≤_}
 use mathlib.Core.Path.{_≡_}
 use mathlib.Core.Bool.{Bool, true, false, _&&_}
@@ -23,6 +23,16 @@ Onward Step m (x ∷ l) u = Step m x × Onward Step x l u
 -- a walk of at most k friendships joins u and v
 abbrev pub Within : Graph → ℕ → ℕ → ℕ → Type 0
 Within g k u v = (l : List ℕ) × (length l ≤ k) × Onward (Friends g) u l v
+
+-- a number of friendships, or none
+pub data Degree : Type 0 where
+  friendships : ℕ → Degree
+  none : Degree
+
+-- the least number of friendships between u and v; none, where no walk of any length joins them
+abbrev pub IsDegree : Graph → ℕ → ℕ → Degree → Type 0
+IsDegree g u v (friendships d) = Within g d u v × ((k : ℕ) → Within g k u v → d ≤ k)
+IsDegree g u v none = (k : ℕ) → Within g k u v → ⊥
 
 abbrev pub one : Bool → ℕ
 one true = 1
