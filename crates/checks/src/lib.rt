@@ -11,12 +11,6 @@ ghost use Rattle.model.specs.Graph.{Friends};
 ghost use Rattle.network.specs.Ready.{Ready, worldOf, graphOf};
 ghost use Rattle.checks.specs.Judged.{judgeNeeds};
 
-fn no_distances() -> [u16; 256]
-    ensures { λ r. ⌜ length r ≡ 256 ⌝ }
-{
-    [0u16; 256]
-}
-
 fn no_rows() -> [u64; 1024]
     ensures { λ r. ⌜ length r ≡ 1024 ⌝ }
 {
@@ -42,7 +36,7 @@ pub fn found(scheme: &[u8], c: Summary, network: &[u8], v: usize, u: usize) -> b
     if near(scheme, c, network, v, u) {
         return true;
     }
-    let mut distances = no_distances();
+    let mut distances = distance::no_distances();
     let mut rows = no_rows();
     prepared::prepare(scheme, c, network, v, &mut distances, &mut rows);
     finding::finds(scheme, c, network, &distances, &rows, v, u)
@@ -84,7 +78,7 @@ fn judge_apart(
     requires { ⌜ Ready (now scheme) c (now network) × (v < c .members) × (u < c .members) × (r < 2 + c .primitives + c .items) ⌝ }
     ensures { λ k. ⌜ Answers (judgeNeeds (worldOf (now (scheme .entry)) (now (network .entry))) v u r defined) k ⌝ }
 {
-    let mut distances = no_distances();
+    let mut distances = distance::no_distances();
     let mut rows = no_rows();
     prepared::prepare(scheme, c, network, v, &mut distances, &mut rows);
     if !finding::finds(scheme, c, network, &distances, &rows, v, u) {

@@ -1,15 +1,16 @@
 -- Layers of marks: whom a walk of d friendships, and none of fewer, joins with v has the mark d + 1.
-use Prim.Native.Nat.{ℕ, _+_, _-_, _<_, _≤_}
+use Prim.Native.Nat.{ℕ, zero, suc, _+_, _-_, _<_, _≤_}
 use mathlib.Core.Path.{_≡_, refl, _∙_}
 use mathlib.Core.Bool.{Bool, false}
 use mathlib.Core.List.{List, [], _∷_}
 use mathlib.Core.Logic.{_⊎_, ⊎-elim}
-use native.Mathlib.Decide.{decLt}
+use native.Mathlib.Decide.{decLe, decLt}
 use native.Mathlib.Nat.{eq-or-lt-of-le}
 use native.Mathlib.Omega.{arith}
 use lib.ListN.{length, getD, set, List·getD-eq-default}
 use Rattle.model.specs.Graph.{Graph, Friends, Onward, Within}
 use Rattle.model.proofs.Deciding.{Inside}
+use Rattle.distance_mark.specs.Mark.{distanceAt, IsDistance}
 use Rattle.next_friend.proofs.Spreading.{after}
 use Rattle.distance.specs.Distances.{Distances}
 use Rattle.distance.specs.Marks.{Cleared, Layered}
@@ -52,16 +53,18 @@ module _ {g : Graph} {v : ℕ} where
         omega (arith, x .closed y m ly lm p (ended y ly (omega arith)) f)
 
     pub layers-distances : Distances g v limit s
-    layers-distances = record {
-      least = λ m k lm lk. (
-        λ (l, b, o). omega (arith, walked l m lm (omega arith) o),
-        λ (p, q).
-            let (l, b, o) = x .sound m (getD s m 0 - 1) lm (omega arith) in
-            (l, omega arith, o),
-      );
-      near = λ m lm. omega (arith, x .top m lm);
-      outside = x .outside;
-    }
+    layers-distances = record { each = λ m lm. at m lm (getD s m 0) refl; outside = x .outside }
+      where
+        at : (m : ℕ) → m < g .members → (e : ℕ) → getD s m 0 ≡ e → IsDistance g limit m v (distanceAt e)
+        at m lm zero z = λ (l, b, o). omega (arith, walked l m lm b o)
+        at m lm (suc e) z = (omega (arith, x .top m lm), (x .sound m e lm (omega arith), λ k (l, b, o). least l k b o))
+          where
+            least : (l : List ℕ) (k : ℕ) → length l ≤ k → Onward (Friends g) m l v → e ≤ k
+            least l k b o =
+                elim (decLe (length l) limit) [
+                  | yes p ↦ omega (arith, walked l m lm p o)
+                  | no n ↦ omega (arith, x .top m lm)
+                ]
 
   module _ {d n : ℕ} {s t : List ℕ} {some : Bool} (x : Layers g v d s) (y : Layered g d s n t some) (all : g .members ≤ n) (pos : 0 < d) (lv : v < g .members) where
     kept : (k : ℕ) → k < g .members → 0 < getD s k 0 → getD t k 0 ≡ getD s k 0

@@ -1,2 +1,3 @@
 pub mod Layers
 mod LayerTurns
+pub mod ReadMarks

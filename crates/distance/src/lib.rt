@@ -1,4 +1,4 @@
-// Distances over friendships (document 01, "Policies", kind 3).
+// Distances over friendships (document 01, "Policies", kind 3; document 02, 2026-01).
 use tables::Summary;
 ghost use mathlib.Core.Path.{_≡_};
 ghost use Prim.Native.Nat.{_<_, _≤_};
@@ -7,6 +7,13 @@ ghost use Rattle.network.specs.Ready.{Ready, graphOf};
 ghost use Rattle.next_friend.specs.Spread.{Marked};
 ghost use Rattle.distance.specs.Distances.{Distances};
 ghost use Rattle.distance.specs.Marks.{Cleared, Layered};
+
+// Places for the marks.
+pub fn no_distances() -> [u16; 256]
+    ensures { λ r. ⌜ length r ≡ 256 ⌝ }
+{
+    [0u16; 256]
+}
 
 // Takes all marks away.
 fn clear(distances: &mut [u16])
@@ -57,7 +64,7 @@ fn layer(scheme: &[u8], c: Summary, network: &[u8], mark: u16, distances: &mut [
     some
 }
 
-// Writes for each member one more than the least number of friendships to v, or 0 where more than the limit are needed.
+// The walk outward from v: writes the mark of each member's distance to v, up to the limit.
 pub fn fill(
     scheme: &[u8],
     c: Summary,

@@ -1,4 +1,5 @@
 // What policies read of an owner and an accessor (document 01, "Policies", kinds 3 to 5).
+use distance_mark::Distance;
 use known::Acquaintance;
 use tables::Summary;
 ghost use mathlib.Core.Path.{_≡_};
@@ -17,10 +18,9 @@ ghost use Rattle.prepared.specs.Reading.{SomeOfKind};
 ghost use Rattle.prepared.specs.Prepared.{Prepared};
 ghost use Rattle.relation.specs.Related.{Related, SomeWithin};
 
-// One more than the least number of friendships, 0 where it was not found; the acquaintance; and the members, at most 5, of
-// the largest clique, where owner and accessor are two.
+// The distance; the acquaintance; and the members, at most 5, of the largest clique, where owner and accessor are two.
 pub struct Relation {
-    pub mark: usize,
+    pub distance: Distance,
     pub acquaintance: Acquaintance,
     pub clique: usize,
 }
@@ -74,7 +74,7 @@ pub fn of_prepared(
     ensures { λ r. ⌜ Related (graphOf (now (scheme .entry)) (now (network .entry))) u v (SomeWithin (now (scheme .entry)) 0 (P (now (scheme .entry)))) (known ≡ true) (clique ≡ true) r ⌝ }
 {
     Relation {
-        mark: distances[u] as usize,
+        distance: distance_mark::read(distances[u]),
         acquaintance: acquaintance(scheme, c, network, rows, u, v, known),
         clique: clique_size(rows, u, v, clique),
     }
@@ -132,7 +132,7 @@ pub fn of_friends(
 {
     if u == v {
         return Relation {
-            mark: 1,
+            distance: Distance::Friendships(0),
             acquaintance: Acquaintance::Close,
             clique: 0,
         };
@@ -143,7 +143,7 @@ pub fn of_friends(
         0
     };
     Relation {
-        mark: 2,
+        distance: Distance::Friendships(1),
         acquaintance: Acquaintance::Close,
         clique: size,
     }

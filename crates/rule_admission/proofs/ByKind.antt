@@ -10,7 +10,8 @@ use Rattle.model.specs.Graph.{Graph, Within}
 use Rattle.model.specs.Policies.{Admits, clique}
 use Rattle.model.proofs.Deciding.{Says, says, decided, iff, is-le}
 use Rattle.clique.specs.Cliques.{LargestClique}
-use Rattle.distance_mark.specs.Mark.{Marks}
+use Rattle.distance_mark.specs.Mark.{AtMost}
+use Rattle.distance_mark.specs.declared.Distance.{Distance}
 
 module _ (g : Graph) (u v : ℕ) (apart : u ≡ v → ⊥) where
   pub clique-decides : (k largest : ℕ) → 2 ≤ k → k ≤ 5 → LargestClique g u v largest → Decides (leb k largest) (Admits g (clique k) u v)
@@ -28,6 +29,6 @@ with-side p d = decided (iff (λ q. (p, q)) (λ h. h .1) d)
 pub offered-is : (set : ℕ) {q w : ℕ} {r : Bool} → w ≡ q → r ≡ bit set w → bit set q ≡ r
 offered-is set e f = sym (f ∙ ap (bit set) e)
 
--- of the mark a rule of kind within is decided
-pub within-decides : (g : Graph) (u v k w mark : ℕ) (r : Bool) → w ≡ k → Within g k u v ↔ Marks mark k → Decides r (Marks mark w) → Decides r (Within g k u v)
-within-decides g u v k w mark r e (to, from) d = decided {b = r} (iff from to (says {b = r} (rw e at d)))
+-- by the distance a rule of kind within is decided
+pub within-decides : (g : Graph) (u v k w : ℕ) (x : Distance) (r : Bool) → w ≡ k → Within g k u v ↔ AtMost x k → Decides r (AtMost x w) → Decides r (Within g k u v)
+within-decides g u v k w x r e (to, from) d = decided {b = r} (iff from to (says {b = r} (rw e at d)))

@@ -14,7 +14,7 @@ use Rattle.rules.specs.declared.Rule.{Rule}
 use Rattle.rules.specs.declared.Rule.the-variants.{Within as WithinRule, Known, Clique}
 use Rattle.network.specs.Ready.{graphOf}
 use Rattle.clique.specs.Cliques.{LargestClique}
-use Rattle.distance_mark.specs.Mark.{Marks}
+use Rattle.distance_mark.specs.Mark.{AtMost}
 use Rattle.known.specs.Acquainted.{Acquainted}
 use Rattle.relation.specs.declared.Relation.{Relation}
 use Rattle.rule_admission.specs.Admission.{Admitted, NextRule}
@@ -28,7 +28,7 @@ bit-says a p f l =
 
 module _ {b net : List ℕ} {u v set : ℕ} {relation : Relation} {rule : Rule} (next : NextRule b net u v relation set rule) (k : ℕ) where
   -- what a rule of kind within reads
-  pub near-of : rule ≡ WithinRule k → Within (graphOf b net) k u v ↔ Marks (relation .mark) k
+  pub near-of : rule ≡ WithinRule k → Within (graphOf b net) k u v ↔ AtMost (relation .distance) k
   near-of e = next .reads .near k (next .p, omega arith, omega arith, next .at .policy ∙ rw e)
 
   -- what a rule of kind known reads

@@ -48,12 +48,13 @@ pub fn admits(
     requires { ⌜ Ready (now scheme) c (now network) × NextRule (now scheme) (now network) u v relation set rule × (u < c .members) × (v < c .members) ⌝ }
     ensures { λ r. ⌜ Decides r (Admits (graphOf (now (scheme .entry)) (now (network .entry))) (policyOfRule (schemeOf (now (scheme .entry)) .policy) rule) u v) ⌝ }
 {
+    let distance = relation.distance;
     let acquaintance = relation.acquaintance;
     match rule {
         Rule::NoOne => false,
         Rule::Everyone => true,
         Rule::Owner => u == v,
-        Rule::Within(k) => distance_mark::within(relation.mark, records::wide(k)),
+        Rule::Within(k) => distance_mark::within(distance, records::wide(k)),
         Rule::Known(k) => known::admits(acquaintance, records::wide(k)),
         Rule::Clique(k) => u == v || records::wide(k) <= relation.clique,
         Rule::State { set: states, side } => in_state(scheme, c, network, states, side, u, v),

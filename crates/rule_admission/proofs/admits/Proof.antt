@@ -145,7 +145,7 @@ returns-4 c =
     let s = c .before .before .before .before .before .before .before in
     let k = c .before .before .before .rule .given in
     told s (c .within .result) (Within (k .0 .0)) (k .1)
-    (within-decides (graph s) (s .args .u) (s .args .v) (k .0 .0) (c .before .wide .result) (s .args .relation .mark) (c .within .result) (c .before .wide .ensures .0)
+    (within-decides (graph s) (s .args .u) (s .args .v) (k .0 .0) (c .before .wide .result) (s .args .relation .distance) (c .within .result) (c .before .wide .ensures .0)
     (near-of (s .pre .1) (k .0 .0) (k .1)) (c .within .ensures))
 
 returns-5 : tie.Need-returns-5
