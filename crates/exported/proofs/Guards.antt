@@ -9,12 +9,13 @@ use denote.Triple.Clauses.{atExit}
 use Rattle.model.specs.Answers.{Answers}
 use Rattle.model.specs.SchemeBytes.{schemeNeeds}
 use Rattle.model.specs.Requests.{event, set-policy, find, view, granted, answered}
-use Rattle.model.specs.Calls.{Called, Freshened, ListAnswered, LengthOf}
+use Rattle.model.specs.Calls.{Called, Freshened, ListAnswered, DegreeAnswered, LengthOf}
 use Rattle.claims.specs.FiveCalls.{Changed, Found, Viewed}
 use Rattle.gatekeeper.proofs.gatekeeper_check as check-contract
 use Rattle.gatekeeper.proofs.gatekeeper_network_length as length-contract
 use Rattle.gatekeeper.proofs.gatekeeper_fresh as fresh-contract
 use Rattle.gatekeeper.proofs.gatekeeper_list as list-contract
+use Rattle.gatekeeper.proofs.gatekeeper_degree as degree-contract
 use Rattle.gatekeeper.proofs.gatekeeper_check.Reads as check-reads
 use Rattle.gatekeeper.proofs.gatekeeper_network_length.Reads as length-reads
 use Rattle.gatekeeper.proofs.gatekeeper_fresh.Reads as fresh-reads
@@ -22,6 +23,7 @@ use Rattle.gatekeeper.proofs.gatekeeper_event.Reads as event-reads
 use Rattle.gatekeeper.proofs.gatekeeper_set.Reads as set-reads
 use Rattle.gatekeeper.proofs.gatekeeper_find.Reads as find-reads
 use Rattle.gatekeeper.proofs.gatekeeper_list.Reads as list-reads
+use Rattle.gatekeeper.proofs.gatekeeper_degree.Reads as degree-reads
 use Rattle.gatekeeper.proofs.gatekeeper_view.Reads as view-reads
 use Rattle.exported.specs.Cite.{ListLearnt, ListMade}
 
@@ -77,6 +79,16 @@ module _ (κs : Lfts 2) (scheme network : RefT (List ℕ)) where
       → Viewed κs scheme network view-reads.Learnt v u o k after
       ≡ ((after ≡ now network) × Called (now scheme) (now network) (answered (view v u o) k) (now network))
   view-learnt v u o k after = refl
+
+module _ (κs : Lfts 3) (scheme network : RefT (List ℕ)) (degree : RefT ℕ) where
+  pub degree-asks-nothing : (v u : ℕ) → degree-reads.Asked κs (scheme, (network, (v, (u, (degree, tt)))))
+  degree-asks-nothing v u = tt
+
+  pub degree-learnt : (v u k told : ℕ)
+      → degree-reads.Learnt κs (scheme, (network, (v, (u, (degree, tt))))) k
+      (atExit degree-contract.ended κs (scheme, (network, (v, (u, (degree, tt))))) (tt, (tt, (tt, (tt, (told, tt))))))
+      ≡ DegreeAnswered (now scheme) (now network) v u (now degree) k told
+  degree-learnt v u k told = refl
 
 module _ (κs : Lfts 4) (scheme network output : RefT (List ℕ)) (count : RefT ℕ) where
   pub list-asks-nothing : (v u : ℕ) → list-reads.Asked κs (scheme, (network, (v, (u, (output, (count, tt))))))

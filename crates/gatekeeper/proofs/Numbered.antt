@@ -1,10 +1,11 @@
--- An answer that is an enum, as document 01's number and a count beside it.
+-- An answer that is an enum, as its number and a value beside it.
 use Prim.Native.Nat.{ℕ, zero, suc}
 use mathlib.Core.Path.{_≡_, refl}
 use mathlib.Core.List.{List}
 use native.Mathlib.Omega.{arith}
 use Rattle.model.specs.Answers.{Answers}
-use Rattle.model.specs.Calls.{ListAnswered, LengthOf}
+use Rattle.model.specs.Calls.{ListAnswered, DegreeAnswered, LengthOf}
+use Rattle.model.specs.Graph.{friendships, none}
 use Rattle.model.specs.SchemeBytes.{schemeNeeds}
 use Rattle.scheme.specs.Checked.{Checked, numberOf as readingNumber}
 use Rattle.scheme.specs.declared.Reading.{Reading}
@@ -12,6 +13,9 @@ use Rattle.scheme.specs.declared.Reading.the-variants.{Accepted, Refused as Unr
 use Rattle.requests.specs.Answered.{numberOf, countOf, ListCalled}
 use Rattle.requests.specs.declared.Listed.{Listed}
 use Rattle.requests.specs.declared.Listed.the-variants.{Friends, Refused}
+use Rattle.degree.specs.Told.{DegreeCalled}
+use Rattle.degree.specs.declared.Told.{Told}
+use Rattle.degree.specs.declared.Told.the-variants.{Friendships, None, Refused as Untold}
 use Rattle.model.proofs.Answering.{answers-unique}
 
 pub check-number : (b : List ℕ) (x : Reading) {k : ℕ} → Checked b x → k ≡ readingNumber x → Answers (schemeNeeds b) k
@@ -40,3 +44,19 @@ module _ (b net : List ℕ) (v u : ℕ) (out : List ℕ) (count : ℕ) (after : 
   list-refused (Friends n) h e unlike = absurd (unlike e)
   list-refused (Refused zero) h e unlike = absurd (unlike e)
   list-refused (Refused (suc m)) h e unlike = rw e (record { left = h .left; kept = λ _. refl })
+
+module _ {b net : List ℕ} {v u degree : ℕ} {x : Told} (h : DegreeCalled b net v u x) where
+  pub degree-granted : {d : ℕ} → x ≡ Friendships d → DegreeAnswered b net v u degree 0 d
+  degree-granted {d} e =
+      let c : DegreeCalled b net v u (Friendships d) = rw e at h in
+      record { answered = c .answered; told = λ z. (friendships d, c .told, refl); kept = λ unlike. absurd (unlike refl) }
+
+  pub degree-none : x ≡ None → DegreeAnswered b net v u degree 0 65535
+  degree-none e =
+      let c : DegreeCalled b net v u None = rw e at h in
+      record { answered = c .answered; told = λ z. (none, c .told, refl); kept = λ unlike. absurd (unlike refl) }
+
+  pub degree-refused : {k : ℕ} → x ≡ Untold k → DegreeAnswered b net v u degree k degree
+  degree-refused {k} e =
+      let c : DegreeCalled b net v u (Untold k) = rw e at h in
+      record { answered = c .answered; told = λ z. absurd (omega (arith, c .told)); kept = λ unlike. refl }

@@ -1,7 +1,8 @@
 // The calls for other languages, on numbers and lent slices. A slice stands in C as a pointer and a count of elements.
+use degree::Told;
 use scheme::Reading;
 ghost use Rattle.model.specs.Answers.{Answers};
-ghost use Rattle.model.specs.Calls.{Called, Freshened, ListAnswered, LengthOf};
+ghost use Rattle.model.specs.Calls.{Called, Freshened, ListAnswered, DegreeAnswered, LengthOf};
 ghost use Rattle.model.specs.Requests.{event, set-policy, find, view, answered};
 ghost use Rattle.model.specs.SchemeBytes.{schemeNeeds};
 
@@ -87,6 +88,30 @@ pub extern "C" fn gatekeeper_list(
         *count = reply.count;
     }
     answer
+}
+
+// Degree: the least number of friendships between v and u, 65535 for none. Only a grant writes it.
+#[no_mangle]
+pub extern "C" fn gatekeeper_degree(
+    scheme: &[u8],
+    network: &[u8],
+    v: usize,
+    u: usize,
+    degree: &mut u16,
+) -> u8
+    ensures { λ k. ⌜ DegreeAnswered (now (scheme .entry)) (now (network .entry)) v u (now (degree .entry)) k (now (degree .exit)) ⌝ }
+{
+    match degree::degree(scheme, network, v, u) {
+        Told::Friendships(d) => {
+            *degree = d;
+            0
+        }
+        Told::None => {
+            *degree = 65535;
+            0
+        }
+        Told::Refused(number) => number,
+    }
 }
 
 // View: v asks for item o of u.

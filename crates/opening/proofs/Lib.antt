@@ -1,2 +1,3 @@
 pub mod OpenAnswers
 pub mod CallAnswers
+pub mod FindAnswers
