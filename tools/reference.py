@@ -1,7 +1,8 @@
 #!/usr/bin/env python3
-"""The gatekeeper of document 01, written from its text alone, to compare the proved program with.
+"""The gatekeeper of document 01 and the call degree of document 02, written from their text alone, to compare the proved
+program with.
 
-With no arguments: a self check on the document's session and edges.
+With no arguments: a self check on document 01's session and edges, and on a few degrees.
 With two file names: the log program, on that scheme and those requests.
 """
 import sys
@@ -341,6 +342,16 @@ def find(scheme_bytes, network, v, u):
     return 0
 
 
+def degree(scheme_bytes, network, v, u):
+    """The answer, which is find's, and the least number of friendships between the two: None where no walk joins them, and
+    where refused."""
+    answer = find(scheme_bytes, network, v, u)
+    if answer != 0:
+        return answer, None
+    _, net = read_network(scheme_bytes, network)
+    return 0, distance(net.graph, v, u)
+
+
 def list_friends(scheme_bytes, network, v, u, output):
     """The answer and the count; u's friends go to the front of the output."""
     answer, net = read_network(scheme_bytes, network)
@@ -520,6 +531,16 @@ def self_check():
     expect('set 3 0 13', set_policy(scheme, network, 3, 0, 13), 12)
     expect('event 0 0 0', event(scheme, network, 0, 0, 0), 8)
     expect('find 3 3', find(scheme, network, 3, 3), 0)
+    expect('degree 3 3', degree(scheme, network, 3, 3), (0, 0))
+    expect('degree 0 3, none', degree(scheme, network, 0, 3), (0, None))
+    expect('degree 3 0, not found', degree(scheme, network, 3, 0), (9, None))
+    expect('degree 0 4', degree(scheme, network, 0, 4), (6, None))
+    for i, j in ((0, 1), (1, 2), (2, 3)):
+        network[pair_place(i, j)] = 3
+    expect('degree 0 3, by 1 and 2', degree(scheme, network, 0, 3), (0, 3))
+    network[pair_place(0, 2)] = 3
+    expect('degree 0 3, by 2', degree(scheme, network, 0, 3), (0, 2))
+    expect('degree 0 2, friends', degree(scheme, network, 0, 2), (0, 1))
     expect('longest network', network_length(LIMITS), 39296)
     print('%d differ' % failures)
     return failures == 0

@@ -1,6 +1,6 @@
 #!/usr/bin/env python3
-"""Tests of docs/reference.md: that it and the definitions name each other, and that its tables and bytes are those of reference.py:
-python3 tools/test_reference_page.py"""
+"""Tests of docs/reference.md: that it and the definitions name each other, that its tables and bytes are those of reference.py, and
+that its calls are those of the library's header: python3 tools/test_reference_page.py"""
 import glob
 import os
 import re
@@ -85,6 +85,22 @@ class Tables(unittest.TestCase):
     def test_answers(self):
         self.assertEqual([cells[0] for cells in rows('Answers', 'answer')], [str(answer) for answer in range(16)])
 
+    def test_who_gives_an_answer(self):
+        """5 to 13 are given by the calls that have them among their refusals."""
+        calls = [(call, refusals.split(', ')) for call, _, refusals, _ in rows('The calls', 'call')]
+        for answer, _, given_by in rows('Answers', 'answer')[5:14]:
+            self.assertEqual(given_by.split(', '), [call for call, refusals in calls if answer in refusals], answer)
+
+    def test_degree_makes_the_checks_of_find(self):
+        self.assertEqual(rows('Degree', 'order'), rows('Find', 'order'))
+
+    def test_header(self):
+        header = content('library', 'gatekeeper.h').decode()
+        calls = [call.split()[-1] for call, *_ in rows('The calls', 'call')]
+        self.assertEqual(sorted(re.findall(r'(?m)^\w+ gatekeeper_(\w+)\(', header)), sorted(calls + ['network_length']))
+        none = int(re.search(r'#define GATEKEEPER_DEGREE_NONE (\d+)', header)[1])
+        self.assertIn('{:,} for none'.format(none), SECTIONS['Calls from other languages'])
+
     def test_refusals_of_each_call(self):
         for call, _, refusals, _ in rows('The calls', 'call'):
             told = [cells[1] for cells in rows(call.capitalize(), 'order')]
@@ -101,6 +117,7 @@ class Tables(unittest.TestCase):
         least, most = ref.Counts(1, 1, 1, 1, 1), ref.LIMITS
         wanted = {'resources R = 2 + A + I': ref.resources, 'a network': ref.network_length,
                   'an accepted scheme': lambda counts: 10 + sum(4 + length for length in ref.body_lengths(counts)),
+                  'degree of two members that have one': lambda counts: counts.members - 1,
                   'pair bytes of a network': lambda counts: ref.pair_count(counts.members),
                   'setting bytes of a network': lambda counts: ref.network_length(counts) - ref.pair_count(counts.members)}
         for place, name in enumerate(('members n', 'states S', 'primitives A', 'items I', 'policies P')):
