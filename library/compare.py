@@ -1,10 +1,13 @@
 #!/usr/bin/env python3
 """Compares the calls with tools/reference.py on random schemes and networks, valid and damaged. It stops at the first
 difference."""
+import ctypes
 import os
 import random
 import sys
 from array import array
+from collections import Counter
+from itertools import product
 
 sys.path.insert(0, os.path.join(os.path.dirname(os.path.abspath(__file__)), '..', 'tools'))
 import cases
@@ -14,6 +17,9 @@ import reference as ref
 ROUNDS = 400
 REQUESTS = 20
 UNTOUCHED = 999
+NONE = 65535            # what stands in the place lent for a degree
+FEWEST = 40             # how often a degree has to be a number above 0, none, and refused
+degrees = Counter()
 
 
 def expect(what, got, wanted):
@@ -35,6 +41,24 @@ def compare_list(scheme, network, v, u, places):
     answer, count = ref.list_friends(scheme, network, v, u, wanted_output)
     expect('list', gatekeeper.list(scheme, network, v, u, output), (answer, count if answer == 0 else None))
     expect('output', output.tolist(), wanted_output)
+
+
+def compare_degree(scheme, network, v, u):
+    answer, number = ref.degree(scheme, network, v, u)
+    degrees['refused' if answer else 'none' if number is None else 'number' if number else 'zero'] += 1
+    expect('degree', gatekeeper.degree(scheme, network, v, u), (answer, number))
+    place = ctypes.c_uint16(UNTOUCHED)
+    gatekeeper._request('degree', scheme, network, False, ctypes.byref(place), v=v, u=u)
+    expect('place of a degree', place.value, UNTOUCHED if answer else NONE if number is None else number)
+
+
+def compare_degrees(scheme, network, members):
+    """Of all pairs of numbers up to n, and of member 0 and numbers that end in the bytes of a member."""
+    for v, u in product(range(members + 1), repeat=2):
+        compare_degree(scheme, network, v, u)
+    for far in (2 ** 8, 2 ** 16, 2 ** 32):
+        compare_degree(scheme, network, far, 0)
+        compare_degree(scheme, network, 0, far)
 
 
 def compare_request(rng, scheme, network, members):
@@ -66,6 +90,7 @@ def compare_scheme(rng):
         network = bytearray(cases.damaged(rng, bytes(network))) if network else network
     for _ in range(REQUESTS):
         compare_request(rng, scheme, network, members)
+    compare_degrees(scheme, network, members)
     ours, wanted = bytearray(network), bytearray(network)
     expect('fresh', gatekeeper.fresh(scheme, ours), ref.fresh(scheme, wanted))
     expect('network', ours, wanted)
@@ -75,7 +100,9 @@ def main():
     rng = random.Random(1)
     for _ in range(ROUNDS):
         compare_scheme(rng)
-    print('library: %d random schemes with %d requests each answer as reference.py does' % (ROUNDS, REQUESTS))
+    if min(degrees[kind] for kind in ('number', 'none', 'refused')) < FEWEST:
+        sys.exit('too few degrees of a kind: %s' % dict(degrees))
+    print('library: %d random schemes with %d requests and all degrees each answer as reference.py does' % (ROUNDS, REQUESTS))
 
 
 if __name__ == '__main__':

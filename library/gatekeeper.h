@@ -3,12 +3,13 @@
  * The calls are proved for any bytes and any numbers. What follows is asked of the caller, and nothing checks it here:
  *
  * - Each pointer is valid for its length: scheme and network for that many bytes, output for that many uint16_t,
- *   count for one size_t. A length counts elements, not bytes. With length 0 the pointer may be NULL; count may not.
- * - What a call may write (network in fresh, event and set; output and count in list) is writable.
- * - output is aligned for uint16_t, and count for size_t.
+ *   count for one size_t, degree for one uint16_t. A length counts elements, not bytes. With length 0 the pointer may be
+ *   NULL; count and degree may not.
+ * - What a call may write (network in fresh, event and set; output and count in list; degree in degree) is writable.
+ * - output and degree are aligned for uint16_t, and count for size_t.
  * - What a call may write overlaps nothing else that is lent to it. What it only reads may be the same.
- * - While a call runs, no other thread writes anything lent to it, or reads a network, an output or a count that it may
- *   write: one thread at a time for each network. The library itself keeps nothing between calls.
+ * - While a call runs, no other thread writes anything lent to it, or reads a network, an output, a count or a degree that it
+ *   may write: one thread at a time for each network. The library itself keeps nothing between calls.
  *
  * A call needs less than 16 kilobytes of stack, allocates nothing and calls nothing outside the library but memset, the one
  * symbol that the archive leaves undefined: given that, it links with -nostdlib. */
@@ -33,7 +34,7 @@ enum gatekeeper_answer {
     GATEKEEPER_NO_MEMBER = 6,         /* v or u is no member */
     GATEKEEPER_NO_RESOURCE = 7,       /* there is no such primitive (event), resource (set) or item (view) */
     GATEKEEPER_SAME_MEMBER = 8,       /* event: v is u */
-    GATEKEEPER_NOT_FOUND = 9,         /* event, find, list, view: v does not find u */
+    GATEKEEPER_NOT_FOUND = 9,         /* event, find, degree, list, view: v does not find u */
     GATEKEEPER_NO_NEXT_STATE = 10,    /* event: the primitive is undefined in the pair's state, for v's side */
     GATEKEEPER_NOT_ADMITTED = 11,     /* event, list, view: u's setting does not admit v */
     GATEKEEPER_NOT_OFFERED = 12,      /* set: the policy may not be chosen for the resource */
@@ -60,6 +61,13 @@ uint8_t gatekeeper_set(const uint8_t *scheme, size_t scheme_length, uint8_t *net
 /* Whether member v finds member u. */
 uint8_t gatekeeper_find(const uint8_t *scheme, size_t scheme_length, const uint8_t *network, size_t network_length,
                         size_t v, size_t u);
+
+/* The least number of friendships between members v and u, 0 to 255: 0 where v is u. It makes the checks of find. A grant
+ * writes the number to degree, or GATEKEEPER_DEGREE_NONE where no walk of friendships joins the two, since search can find
+ * such a member. A refusal leaves degree alone. */
+#define GATEKEEPER_DEGREE_NONE 65535
+uint8_t gatekeeper_degree(const uint8_t *scheme, size_t scheme_length, const uint8_t *network, size_t network_length,
+                          size_t v, size_t u, uint16_t *degree);
 
 /* Member v asks for u's friends. A grant writes them in rising order at the front of output, and their number to count;
  * the places behind them stay. A refusal writes neither. n places are always enough. */

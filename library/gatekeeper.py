@@ -18,7 +18,7 @@ import sys
 from collections import namedtuple
 from contextlib import contextmanager
 
-__all__ = ['Answer', 'check', 'event', 'find', 'fresh', 'network_length', 'view']
+__all__ = ['Answer', 'check', 'degree', 'event', 'find', 'fresh', 'network_length', 'view']
 
 
 class Answer(enum.IntEnum):
@@ -51,6 +51,7 @@ _SIGNATURES = {
     'check': _BYTES, 'network_length': _BYTES, 'fresh': 2 * _BYTES, 'find': 2 * _BYTES + 2 * _NUMBER,
     'event': 2 * _BYTES + 3 * _NUMBER, 'set': 2 * _BYTES + 3 * _NUMBER, 'view': 2 * _BYTES + 3 * _NUMBER,
     'list': 2 * _BYTES + 2 * _NUMBER + _BYTES + [ctypes.POINTER(ctypes.c_size_t)],
+    'degree': 2 * _BYTES + 2 * _NUMBER + [ctypes.POINTER(ctypes.c_uint16)],
 }
 _calls = {}
 for _name, _arguments in _SIGNATURES.items():
@@ -58,6 +59,7 @@ for _name, _arguments in _SIGNATURES.items():
     _calls[_name].argtypes = _arguments
     _calls[_name].restype = ctypes.c_size_t if _name == 'network_length' else ctypes.c_uint8
 
+_DEGREE_NONE = 65535
 _LARGEST = 2 ** (8 * ctypes.sizeof(ctypes.c_size_t)) - 1
 _NATIVE = ('', '@', '=', '<' if sys.byteorder == 'little' else '>')         # byte orders, as formats begin
 
@@ -105,10 +107,11 @@ def _apart(*parts):
     return [value for part in parts for value in (part.at, part.length)]
 
 
-def _request(call, scheme, network, written, **numbers):
+def _request(call, scheme, network, written, *places, **numbers):
+    """A call's answer; places stand behind the numbers."""
     values = [_number(value, name) for name, value in numbers.items()]
     with _lent(scheme, 'scheme') as scheme_part, _lent(network, 'network', written) as network_part:
-        return _calls[call](*_apart(scheme_part, network_part), *values)
+        return _calls[call](*_apart(scheme_part, network_part), *values, *places)
 
 
 def check(scheme):
@@ -141,6 +144,13 @@ def set(scheme, network, u, r, p):
 def find(scheme, network, v, u):
     """Whether member v finds member u."""
     return _request('find', scheme, network, False, v=v, u=u)
+
+
+def degree(scheme, network, v, u):
+    """The answer, and the least number of friendships between members v and u: None where no walk joins them, and if refused."""
+    place = ctypes.c_uint16()
+    answer = _request('degree', scheme, network, False, ctypes.byref(place), v=v, u=u)
+    return answer, place.value if answer == Answer.GRANTED and place.value != _DEGREE_NONE else None
 
 
 def list(scheme, network, v, u, output):

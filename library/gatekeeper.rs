@@ -33,6 +33,10 @@ mod c {
         pub fn gatekeeper_find(
             scheme: *const u8, scheme_length: usize, network: *const u8, network_length: usize, v: usize, u: usize,
         ) -> u8;
+        pub fn gatekeeper_degree(
+            scheme: *const u8, scheme_length: usize, network: *const u8, network_length: usize, v: usize, u: usize,
+            degree: *mut u16,
+        ) -> u8;
         pub fn gatekeeper_list(
             scheme: *const u8, scheme_length: usize, network: *const u8, network_length: usize, v: usize, u: usize,
             output: *mut u16, output_length: usize, count: *mut usize,
@@ -42,6 +46,9 @@ mod c {
         ) -> u8;
     }
 }
+
+/// What `gatekeeper_degree` writes where no walk of friendships joins the two members.
+const DEGREE_NONE: u16 = 65535;
 
 /// The scheme check.
 pub fn check(scheme: &[u8]) -> u8 {
@@ -71,6 +78,19 @@ pub fn set(scheme: &[u8], network: &mut [u8], u: usize, r: usize, p: usize) -> u
 /// Whether member v finds member u.
 pub fn find(scheme: &[u8], network: &[u8], v: usize, u: usize) -> u8 {
     unsafe { c::gatekeeper_find(scheme.as_ptr(), scheme.len(), network.as_ptr(), network.len(), v, u) }
+}
+
+/// The least number of friendships between members v and u, none where no walk joins them, or the refusal's number.
+pub fn degree(scheme: &[u8], network: &[u8], v: usize, u: usize) -> Result<Option<u16>, u8> {
+    let mut degree = 0;
+    let answer = unsafe {
+        c::gatekeeper_degree(scheme.as_ptr(), scheme.len(), network.as_ptr(), network.len(), v, u, &mut degree)
+    };
+    match answer {
+        answer::GRANTED if degree == DEGREE_NONE => Ok(None),
+        answer::GRANTED => Ok(Some(degree)),
+        _ => Err(answer),
+    }
 }
 
 /// Member v asks for u's friends: their number, at the front of the output, or the refusal's number.

@@ -16,7 +16,7 @@ import gatekeeper
 import reference as ref
 
 SCHEME = ref.standard_scheme(4)
-CALLS = {'check', 'event', 'find', 'fresh', 'list', 'network_length', 'set', 'view'}
+CALLS = {'check', 'degree', 'event', 'find', 'fresh', 'list', 'network_length', 'set', 'view'}
 OTHER_ORDER = (ctypes.c_uint16.__ctype_be__ if sys.byteorder == 'little' else ctypes.c_uint16.__ctype_le__) * 4
 
 
@@ -58,6 +58,22 @@ class Arguments(unittest.TestCase):
                        memoryview(bytearray(9))[1:].cast('H')):
             self.refused(gatekeeper.list, SCHEME, network, 0, 0, output)
 
+    def test_degree(self):
+        """A number, none, and a refusal, which leaves the lent place alone."""
+        network = fresh_network()
+        self.assertEqual(gatekeeper.set(SCHEME, network, 3, 0, 12), 0)      # everyone may search for 3
+        self.assertEqual(gatekeeper.set(SCHEME, network, 1, 1, 4), 0)       # everyone may traverse 1
+        network[0] = network[2] = 3                                         # 0 and 1 are friends, and 1 and 2
+        for v, u, answer, number in ((0, 0, 0, 0), (0, 1, 0, 1), (0, 2, 0, 2), (2, 0, 0, 2), (0, 3, 0, None), (3, 3, 0, 0),
+                                     (3, 0, 9, None), (0, 4, 6, None), (2 ** 16, 0, 6, None), (0, 2 ** 64 - 1, 6, None)):
+            self.assertEqual(gatekeeper.degree(SCHEME, network, v, u), (answer, number))
+            for before in (0, 7, 65535):
+                place = ctypes.c_uint16(before)
+                gatekeeper._request('degree', SCHEME, network, False, ctypes.byref(place), v=v, u=u)
+                self.assertEqual(place.value, before if answer else 65535 if number is None else number)
+        self.assertEqual(gatekeeper.degree(SCHEME, network[:-1], 0, 0), (5, None))
+        self.assertEqual(gatekeeper.degree(b'', network, 0, 0), (1, None))
+
     def test_what_cannot_be_lent(self):
         network = fresh_network()
         self.refused(gatekeeper.check, 'text')
@@ -71,12 +87,14 @@ class Arguments(unittest.TestCase):
         self.assertEqual(gatekeeper.find(SCHEME, network, 2 ** 64 - 1, 0), 6)
         for number in (-1, 2 ** 64, 1.0, '1', None):
             self.refused(gatekeeper.find, SCHEME, network, number, 0)
+            self.refused(gatekeeper.degree, SCHEME, network, 0, number)
 
     def test_overlap(self):
         """What is only read may be the same; what is written may not."""
         for same in (SCHEME, bytearray(SCHEME), array('B', SCHEME)):
             self.assertEqual(gatekeeper.find(same, same, 0, 0), 5)
             self.assertEqual(gatekeeper.view(same, same, 0, 0, 0), 5)
+            self.assertEqual(gatekeeper.degree(same, same, 0, 0), (5, None))
             self.assertEqual(gatekeeper.list(same, same, 0, 0, array('H', 4 * [0])), (5, None))
         network = fresh_network()
         self.refused(gatekeeper.fresh, network, network)
@@ -93,7 +111,8 @@ class Arguments(unittest.TestCase):
 
         kept = []
         for bad in (False, True):
-            for call, *numbers in (('event', 0, 1, 0), ('set', 0, 0, 8), ('find', 0, 0), ('view', 0, 0, 0), ('fresh',)):
+            for call, *numbers in (('event', 0, 1, 0), ('set', 0, 0, 8), ('find', 0, 0), ('degree', 0, 0), ('view', 0, 0, 0),
+                                   ('fresh',)):
                 for lent in ((bytearray(SCHEME), fresh_network()), (bytearray(SCHEME), memoryview(bytes(84))[::2])):
                     bad_numbers = numbers[:-1] + [-1] if bad and numbers else numbers
                     kept.append(tried(getattr(gatekeeper, call), *lent, *bad_numbers))
@@ -129,7 +148,7 @@ class Module(unittest.TestCase):
         self.assertEqual(names.keys(), CALLS - {'set', 'list'} | {'Answer'})
         self.assertTrue(all(callable(getattr(gatekeeper, call)) for call in CALLS))
 
-    def test_answers_are_those_of_the_header(self):
+    def test_numbers_are_those_of_the_header(self):
         def found(name, pattern):
             with open(os.path.join(LIBRARY, name)) as file:
                 return [(word, int(number)) for word, number in re.findall(pattern, file.read())]
@@ -138,6 +157,9 @@ class Module(unittest.TestCase):
         self.assertEqual([number for _, number in answers], [*range(14)])
         self.assertEqual(found('gatekeeper.h', r'GATEKEEPER_(\w+) = (\d+)'), answers)
         self.assertEqual(found('gatekeeper.rs', r'const (\w+): u8 = (\d+);'), answers)
+        none = [('DEGREE_NONE', gatekeeper._DEGREE_NONE)]
+        self.assertEqual(found('gatekeeper.h', r'#define GATEKEEPER_(\w+) (\d+)'), none)
+        self.assertEqual(found('gatekeeper.rs', r'const (\w+): u16 = (\d+);'), none)
 
 
 if __name__ == '__main__':
