@@ -137,6 +137,9 @@ tests c s (view v u o) =
     ∷ (11, allows (world c s) u (2 + c .primitives + o) v)
     ∷ []
 
+abbrev pub suggestTests : World → ℕ → ℕ → ℕ → List Test
+suggestTests w v c places = (6, ltb v (w .graph .members)) ∷ (13, leb c places) ∷ []
+
 unfoldable pub turn : Scheme → Maps → Request → Turn
 turn c s q =
     let k = first (tests c s q) in

@@ -49,6 +49,19 @@ count-above f n k l h =
     ∙ ap (λ (x : ℕ). count f n + x) (none (λ (m : ℕ). f (n + m)) (k - n) (λ m b. h (n + m) (omega arith)))
     ∙ add-zero (count f n)
 
+-- where the count is not 0, one passes
+pub count-some : (f : ℕ → Bool) (n : ℕ) → 1 ≤ count f n → (m : ℕ) × (m < n) × (f m ≡ true)
+unfolding count
+count-some f zero h = absurd (omega arith)
+count-some f (suc n) h = go (f n) refl (λ i. count-some f n i)
+  where
+    go : (b : Bool) → f n ≡ b → (1 ≤ count f n → (m : ℕ) × (m < n) × (f m ≡ true)) → (m : ℕ) × (m < suc n) × (f m ≡ true)
+    go true e ih = (n, omega arith, e)
+    go false e ih =
+        let z : one (f n) ≡ 0 = ap one e in
+        let (m, b, t) = ih (omega arith) in
+        (m, omega arith, t)
+
 one-more : (a b : Bool) → (a ≡ true → b ≡ true) → one a ≤ one b
 one-more true true h = le-refl 1
 one-more true false h = absurd (true≢false (sym (h refl)))

@@ -136,6 +136,18 @@ every-holds f (suc n) e m b = go (ℕ-discrete m n) (λ h. every-holds f n (halv
     go (yes h) i = rw h (halves .1)
     go (no h) i = i (omega arith)
 
+-- or one has not
+pub every-fails : (f : ℕ → Bool) (n : ℕ) → every f n ≡ false → (m : ℕ) × (m < n) × (f m ≡ false)
+unfolding every
+every-fails f zero e = absurd (true≢false e)
+every-fails f (suc n) e = go (f n) refl (every f n) (λ z. every-fails f n z) e
+  where
+    go : (b : Bool) → f n ≡ b → (a : Bool) → (a ≡ false → (m : ℕ) × (m < n) × (f m ≡ false)) → (a && b) ≡ false
+        → (m : ℕ) × (m < suc n) × (f m ≡ false)
+    go false q a ih h = (n, omega arith, q)
+    go true q true ih h = absurd (true≢false h)
+    go true q false ih h = let (m, b, z) = ih refl in (m, omega arith, z)
+
 pub is-among : (x : ℕ) (l : List ℕ) → Says (among x l) (Among x l)
 unfolding among
 is-among x [] = says (λ h. h)

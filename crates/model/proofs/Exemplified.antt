@@ -1,23 +1,27 @@
 -- The small examples, computed.
-use Prim.Native.Nat.{ℕ, _+_, _*_}
+use Prim.Native.Nat.{ℕ, zero, suc, _+_, _*_}
 use mathlib.Core.Path.{_≡_, refl}
 use mathlib.Core.Bool.{Bool, true, false, _&&_, not}
 use mathlib.Core.List.{List, [], _∷_}
 use borrow.Author.Tests.{eqb-true}
 use lib.Dec.{eqb}
 use lib.ListN.{getD}
-use Rattle.model.specs.Graph.{Degree, count}
+use Rattle.model.specs.Graph.{Degree, count, shared}
 use Rattle.model.specs.Scheme.{lowestFrom}
 use Rattle.model.specs.SchemeBytes.{schemeOf}
 use Rattle.model.specs.Network.{fresh, pairPlace, held, world}
 use Rattle.model.specs.Requests.{writes, those, put, granted}
+use Rattle.model.specs.Suggestions.{Suggestions}
 use Rattle.model.specs.Standard.{standard, standardBytes}
-use Rattle.model.specs.Examples.{small, joins, Admission, AllAdmissions, admissions, four, Judgement, AllJudged, judgements, degrees, AllDegrees, Effects, freshBytes, Layout}
-use Rattle.model.proofs.Computing.{some, every, among, isWithin, hasDegree, friendOfAll, allFriends, someList, isClique, onSide, admits, stands, begins, goes, reached, closed, found, sure, finds, allows, first, tests, asks}
+use Rattle.model.specs.Examples.{small, joins, Admission, AllAdmissions, admissions, four, Judgement, AllJudged, judgements, degrees, AllDegrees, acquainted, eight, Suggesting, AllSuggested, suggestings, Effects, freshBytes, Layout}
+use Rattle.model.proofs.Computing.{some, every, among, isWithin, hasDegree, friendOfAll, allFriends, someList, isClique, onSide, admits, stands, begins, goes, reached, closed, found, sure, finds, allows, first, tests, suggestTests, asks}
 use Rattle.model.proofs.Deciding.{is-true, is-eq, is-lt, conj, negated, every-holds, is-admitted, Inside}
 use Rattle.model.proofs.Places.{pair-before}
-use Rattle.model.proofs.Judging.{judged, world-inside}
+use Rattle.model.proofs.Walking.{is-found}
+use Rattle.model.proofs.Judging.{judged, suggest-judged, world-inside}
 use Rattle.model.proofs.Degrees.{has-degree}
+use Rattle.model.proofs.Paging.{insert, enter, pageOf}
+use Rattle.model.proofs.Suggesting.{earlier, suggestible, suggestions-computed}
 
 small-inside : Inside small
 small-inside u m e = conj (conj (conj (is-lt u 5) (is-lt m 5)) (negated (is-eq u m))) (is-true (joins u m)) .yes-if e .0 .0 .1
@@ -85,6 +89,45 @@ all-degrees ((u, v, d) ∷ rows) e =
 pub degrees-hold : AllDegrees degrees
 unfolding degrees-computed some isWithin hasDegree
 degrees-hold = all-degrees degrees refl
+
+eight-inside : Inside (eight .graph)
+eight-inside u m e = conj (conj (conj (is-lt u 8) (is-lt m 8)) (negated (is-eq u m))) (is-true (acquainted u m)) .yes-if e .0 .0 .1
+
+page : ℕ → ℕ → List ℕ
+page v c = pageOf (earlier (shared (eight .graph) v)) (suggestible eight v (finds eight v)) 8 c
+
+-- the computed answers and pages
+suggest : List Suggesting → List Suggesting
+suggest [] = []
+suggest ((v, c, places, k, written) ∷ l) =
+    let answer = first (suggestTests eight v c places) in
+    (v, c, places, answer, granted answer (page v c) []) ∷ suggest l
+
+suggest-sure : List Suggesting → Bool
+suggest-sure [] = true
+suggest-sure ((v, c, places, k, written) ∷ l) = sure eight v && suggest-sure l
+
+all-suggested : (l : List Suggesting) → suggest-sure l ≡ true → AllSuggested (suggest l)
+unfolding page suggest suggest-sure
+all-suggested [] e = tt
+all-suggested ((v, c, places, k, written) ∷ l) e =
+    let (s, rest) = conj (is-true (sure eight v)) (is-true (suggest-sure l)) .yes-if e in
+    (suggest-judged eight v c places, wrote s (first (suggestTests eight v c places)), all-suggested l rest)
+  where
+    wrote : sure eight v ≡ true → (k : ℕ) → granted k (Suggestions eight v c (granted k (page v c) [])) (granted k (page v c) [] ≡ [])
+    wrote s zero = suggestions-computed eight v (is-found eight eight-inside v s) c
+    wrote s (suc k) = refl
+
+suggestings-sure : suggest-sure suggestings ≡ true
+unfolding suggest-sure some every among admits stands begins goes reached closed found sure those
+suggestings-sure = refl
+
+suggestings-computed : suggest suggestings ≡ suggestings
+unfolding suggest page some every among admits stands begins goes reached closed found finds first count those earlier insert enter pageOf
+suggestings-computed = refl
+
+pub suggestings-hold : AllSuggested suggestings
+suggestings-hold = rw suggestings-computed at (all-suggested suggestings suggestings-sure)
 
 pub effects : Effects
 unfolding put

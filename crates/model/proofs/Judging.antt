@@ -8,11 +8,12 @@ use lib.Dec.{ltb}
 use Rattle.model.specs.Answers.{Requirement, Answers}
 use Rattle.model.specs.Bytes.{bit}
 use Rattle.model.specs.Decides.{Decides}
-use Rattle.model.specs.Finding.{Allows}
+use Rattle.model.specs.Finding.{World, Allows}
 use Rattle.model.specs.Scheme.{Scheme, resources}
 use Rattle.model.specs.Network.{Maps, world, stateOf}
 use Rattle.model.specs.Requests.{Request, event, set-policy, find, list, view, next, needs}
-use Rattle.model.proofs.Computing.{sure, allows, Test, first, tests, asks}
+use Rattle.model.specs.Suggestions.{suggestNeeds}
+use Rattle.model.proofs.Computing.{sure, allows, Test, first, tests, suggestTests, asks}
 use Rattle.model.proofs.Deciding.{Says, decided, is-true, is-eq, is-lt, is-le, conj, negated, is-admitted, Inside}
 use Rattle.model.proofs.Walking.{is-found}
 
@@ -73,3 +74,8 @@ module _ (c : Scheme) (s : Maps) where
 
   pub judged : (q : Request) → sure (world c s) (asks q) ≡ true → Answers (needs c s q) (first (tests c s q))
   judged q e = first-answers (needs c s q) (tests c s q) (tested q e)
+
+pub suggest-judged : (w : World) (v c places : ℕ) → Answers (suggestNeeds w v c places) (first (suggestTests w v c places))
+suggest-judged w v c places =
+    first-answers (suggestNeeds w v c places) (suggestTests w v c places)
+    (refl, is-lt v (w .graph .members), (refl, is-le c places, tt))

@@ -10,9 +10,10 @@ use Rattle.model.specs.Scheme.{Scheme}
 use Rattle.model.specs.SchemeBytes.{schemeOf, Accepted}
 use Rattle.model.specs.Network.{Maps, held, world}
 use Rattle.model.specs.Requests.{Request, event, set-policy, find, list, view, writes, granted}
-use Rattle.model.specs.Calls.{puts, callNeeds, FrontOnly, Left, ListAnswered, degreeNumber, DegreeAnswered, LengthOf}
+use Rattle.model.specs.Calls.{puts, callNeeds, FrontOnly, Left, ListAnswered, degreeNumber, DegreeAnswered, suggestCallNeeds, SuggestLeft, SuggestAnswered, LengthOf}
 use Rattle.model.proofs.Answering.{answers-unique}
 use Rattle.model.proofs.Degrees.{degree-once}
+use Rattle.model.proofs.Suggesting.{suggestions-once}
 
 -- the list stands at the front, and behind it what stood there
 pub filled : {count : ℕ} {out after : List ℕ} (l : List ℕ) → FrontOnly count out after → take count after ≡ l
@@ -95,6 +96,13 @@ length-once b r r' f g = go (ℕ-discrete r r')
         let not : Accepted b → ⊥ = λ a. n (f .accepted a ∙ sym (g .accepted a)) in
         f .refused not ∙ sym (g .refused not)
 
+-- one count in a lent place that a refusal leaves alone
+count-once : (count n n' k k' : ℕ) → k ≡ k' → ((k ≡ 0 → ⊥) → n ≡ count) → ((k' ≡ 0 → ⊥) → n' ≡ count) → granted k n 0 ≡ granted k' n' 0 → n ≡ n'
+count-once count n n' zero zero e p q c = c
+count-once count n n' zero (suc y) e p q c = absurd (omega arith)
+count-once count n n' (suc x) zero e p q c = absurd (omega arith)
+count-once count n n' (suc x) (suc y) e p q c = p (λ z. omega arith) ∙ sym (q (λ z. omega arith))
+
 -- one answer, one output and one count
 pub list-once : (b net : List ℕ) (v u : ℕ) (out : List ℕ) (count k k' : ℕ) (after after' : List ℕ) (n n' : ℕ)
     → ListAnswered b net v u out count k after n
@@ -102,14 +110,7 @@ pub list-once : (b net : List ℕ) (v u : ℕ) (out : List ℕ) (count k k' : �
     → (k ≡ k') × (after ≡ after') × (n ≡ n')
 list-once b net v u out count k k' after after' n n' f g =
     let (e, c, o, same) = left-once b net (list v u (length out)) out (f .left) (g .left) in
-    (e, o, counted k k' e f g c)
-  where
-    counted : (x y : ℕ) → x ≡ y → ListAnswered b net v u out count x after n → ListAnswered b net v u out count y after' n'
-        → granted x n 0 ≡ granted y n' 0 → n ≡ n'
-    counted zero zero e p q c = c
-    counted zero (suc y) e p q c = absurd (omega arith)
-    counted (suc x) zero e p q c = absurd (omega arith)
-    counted (suc x) (suc y) e p q c = p .kept (λ z. omega arith) ∙ sym (q .kept (λ z. omega arith))
+    (e, o, count-once count n n' k k' e (f .kept) (g .kept) c)
 
 -- one answer and one degree
 pub degree-answered-once : (b net : List ℕ) (v u degree k k' n n' : ℕ)
@@ -126,3 +127,29 @@ degree-answered-once b net v u degree k k' n n' f g =
         let (d', h', p') = g .told (sym e ∙ z) in
         p ∙ ap degreeNumber (degree-once (world (schemeOf b) (held (schemeOf b) net) .graph) u v d d' h h') ∙ sym p'
     same (no r) e = f .kept r ∙ sym (g .kept (λ z. r (e ∙ z)))
+
+-- one answer, one count and one output
+pub suggest-left-once : (b net : List ℕ) (v c : ℕ) (out : List ℕ) {k k' n n' : ℕ} {o o' : List ℕ}
+    → SuggestLeft b net v c out k n o
+    → SuggestLeft b net v c out k' n' o'
+    → (k ≡ k') × (n ≡ n') × (o ≡ o')
+suggest-left-once b net v c out {k} {k'} {n} {n'} {o} {o'} f g =
+    let e : k ≡ k' = answers-unique (suggestCallNeeds b net v c (length out)) k k' (f .answered) (g .answered) in
+    let p : take n o ≡ take n' o' = page (ℕ-discrete k 0) e in
+    let (m, a) = filled (take n' o') (f .front) p in
+    let (m', a') = filled (take n' o') (g .front) refl in
+    let same : n ≡ n' = m ∙ sym m' in
+    (e, same, a ∙ ap (λ (i : ℕ). take n' o' ++ drop i out) same ∙ sym a')
+  where
+    page : Dec (k ≡ 0) → k ≡ k' → take n o ≡ take n' o'
+    page (yes z) e =
+        suggestions-once (world (schemeOf b) (held (schemeOf b) net)) v c (take n o) (take n' o') (f .wrote z) (g .wrote (sym e ∙ z))
+    page (no r) e = rw (f .nothing r, g .nothing (λ z. r (e ∙ z))) refl
+
+pub suggest-answered-once : (b net : List ℕ) (v c : ℕ) (out : List ℕ) (count k k' : ℕ) (after after' : List ℕ) (n n' : ℕ)
+    → SuggestAnswered b net v c out count k after n
+    → SuggestAnswered b net v c out count k' after' n'
+    → (k ≡ k') × (after ≡ after') × (n ≡ n')
+suggest-answered-once b net v c out count k k' after after' n n' f g =
+    let (e, same, o) = suggest-left-once b net v c out (f .left) (g .left) in
+    (e, o, count-once count n n' k k' e (f .kept) (g .kept) same)

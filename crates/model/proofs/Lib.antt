@@ -10,6 +10,8 @@ pub mod Deciding
 pub mod Walking
 pub mod Degrees
 pub mod Judging
+pub mod Paging
+pub mod Suggesting
 -- schemes and networks
 pub mod Cliques
 pub mod Decoding

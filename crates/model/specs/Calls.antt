@@ -9,6 +9,7 @@ use Rattle.model.specs.Scheme.{Scheme}
 use Rattle.model.specs.SchemeBytes.{schemeOf, schemeNeeds, Accepted}
 use Rattle.model.specs.Network.{fresh, pairPlace, settingPlace, size, Laid, held, world, Valid}
 use Rattle.model.specs.Requests.{Request, event, set-policy, find, list, view, next, needs, writes, Turn, granted}
+use Rattle.model.specs.Suggestions.{Suggestions, suggestNeeds}
 
 -- the bytes are a fresh network under scheme b
 abbrev pub Fresh : List ℕ → List ℕ → Type 0
@@ -67,6 +68,23 @@ pub record DegreeAnswered (b net : List ℕ) (v u : ℕ) (degree answer degree�
   pub answered : Answers (callNeeds b net (find v u)) answer
   pub told : answer ≡ 0 → (d : Degree) × IsDegree (world (schemeOf b) (held (schemeOf b) net) .graph) u v d × (degree′ ≡ degreeNumber d)
   pub kept : (answer ≡ 0 → ⊥) → degree′ ≡ degree
+
+-- suggest begins as every request does
+abbrev pub suggestCallNeeds : List ℕ → List ℕ → ℕ → ℕ → ℕ → List Requirement
+suggestCallNeeds b net v c places =
+    schemeNeeds b ++ (5, Valid (schemeOf b) net) ∷ suggestNeeds (world (schemeOf b) (held (schemeOf b) net)) v c places
+
+-- what the call suggest leaves: its answer, and the page that it wrote at the front of the output, as long as counted
+pub record SuggestLeft (b net : List ℕ) (v c : ℕ) (out : List ℕ) (answer count : ℕ) (after : List ℕ) : Type 0 where
+  pub answered : Answers (suggestCallNeeds b net v c (length out)) answer
+  pub wrote : answer ≡ 0 → Suggestions (world (schemeOf b) (held (schemeOf b) net)) v c (take count after)
+  pub nothing : (answer ≡ 0 → ⊥) → count ≡ 0
+  pub front : FrontOnly count out after
+
+-- where its count goes through a lent place, which a refusal leaves alone
+pub record SuggestAnswered (b net : List ℕ) (v c : ℕ) (out : List ℕ) (count answer : ℕ) (after : List ℕ) (counted : ℕ) : Type 0 where
+  pub left : SuggestLeft b net v c out answer (granted answer counted 0) after
+  pub kept : (answer ≡ 0 → ⊥) → counted ≡ count
 
 -- the length of a network under an accepted scheme; 0 under any other
 pub record LengthOf (b : List ℕ) (r : ℕ) : Type 0 where

@@ -1,15 +1,17 @@
 -- Small examples of the policies and of the requests (docs/reference.md, "Worked examples").
 use Prim.Native.Nat.{ℕ}
 use mathlib.Core.Path.{_≡_}
-use mathlib.Core.Bool.{Bool, true, false, _&&_, _||_, cond}
+use mathlib.Core.Bool.{Bool, true, false, _&&_, _||_, not, cond}
 use mathlib.Core.List.{List, [], _∷_}
 use lib.Dec.{eqb}
 use Rattle.model.specs.Answers.{Answers}
 use Rattle.model.specs.Bytes.{bit}
 use Rattle.model.specs.Graph.{Graph, Degree, friendships, none, IsDegree}
 use Rattle.model.specs.Policies.{Policy, known, clique, within, state, both, either, owner-only, no-one, everyone, any-side, owner-lesser, owner-greater, Admits}
+use Rattle.model.specs.Finding.{World}
 use Rattle.model.specs.Network.{Maps, markedGraph, world}
 use Rattle.model.specs.Requests.{Request, event, set-policy, find, list, view, needs, writes, does, granted}
+use Rattle.model.specs.Suggestions.{Suggestions, suggestNeeds}
 use Rattle.model.specs.Log.{Outcome, ended, refused, request, NextAt, placeAfter}
 use Rattle.model.specs.Calls.{Fresh, puts}
 use Rattle.model.specs.Standard.{standard, standardBytes}
@@ -136,6 +138,43 @@ degrees = (0, 0, friendships 0) ∷ (1, 0, friendships 1) ∷ (2, 0, friendships
 abbrev pub AllDegrees : List (ℕ × ℕ × Degree) → Type 0
 AllDegrees [] = Unit {0}
 AllDegrees ((u, v, d) ∷ rows) = IsDegree (world (standard 4) four .graph) u v d × AllDegrees rows
+
+-- 0 is a friend of 1 and 2, as are 4, 5 and 7; 1 and 2 are friends; 3 is a friend of 1 and 6
+abbrev pub acquainted : ℕ → ℕ → Bool
+acquainted u v =
+    joined 0 1 || joined 0 2 || joined 1 2 || joined 1 3 || joined 1 4 || joined 2 4 || joined 1 5 || joined 2 5 || joined 3 6 || joined 1 7 || joined 2 7
+  where
+    joined : ℕ → ℕ → Bool
+    joined a b = (eqb u a && eqb v b) || (eqb u b && eqb v a)
+
+-- everyone's search admits everyone, but for 7's; nobody may be traversed
+abbrev pub eight : World
+eight = record { graph = markedGraph 8 acquainted (λ set u v. false); setting = λ m r. cond (eqb r 0 && not (eqb m 7)) everyone no-one }
+
+-- who asks, for how many, with so many places; the answer, and the page written
+abbrev pub Suggesting : Type 0
+Suggesting = ℕ × ℕ × ℕ × ℕ × List ℕ
+
+abbrev pub AllSuggested : List Suggesting → Type 0
+AllSuggested [] = Unit {0}
+AllSuggested ((v, c, places, answer, page) ∷ rows) =
+    Answers (suggestNeeds eight v c places) answer × granted answer (Suggestions eight v c page) (page ≡ []) × AllSuggested rows
+
+abbrev pub suggestings : List Suggesting
+suggestings =
+    -- 4 and 5 share two friends with 0, and 3 shares one; 1 and 2 are its friends, 6 shares none, 7 is not found
+    (0, 4, 9, 0, 4 ∷ 5 ∷ 3 ∷ [])
+    ∷ (0, 3, 3, 0, 4 ∷ 5 ∷ 3 ∷ [])
+    ∷ (0, 2, 2, 0, 4 ∷ 5 ∷ [])
+    ∷ (0, 1, 1, 0, 4 ∷ [])
+    ∷ (0, 0, 0, 0, [])
+    -- 7 finds the others
+    ∷ (7, 8, 8, 0, 0 ∷ 4 ∷ 5 ∷ 3 ∷ [])
+    -- 6 before 13, and 13 by the wanted number
+    ∷ (0, 4, 3, 13, [])
+    ∷ (8, 4, 3, 6, [])
+    ∷ (8, 0, 0, 6, [])
+    ∷ []
 
 -- what granted requests do to these maps: one pair moves by the side that acts, one setting changes, all else stays
 pub record Effects : Type 0 where

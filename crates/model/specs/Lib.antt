@@ -13,6 +13,9 @@ pub mod SchemeBytes
 -- "Finding", and "Network", which gives what finding reads
 pub mod Finding
 pub mod Network
+-- "Suggestions"
+pub mod Page
+pub mod Suggestions
 -- "The calls"
 pub mod Requests
 pub mod Calls
