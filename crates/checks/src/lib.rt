@@ -9,6 +9,7 @@ ghost use Rattle.model.specs.Decides.{Decides};
 ghost use Rattle.model.specs.Finding.{Finds};
 ghost use Rattle.model.specs.Graph.{Friends};
 ghost use Rattle.network.specs.Ready.{Ready, worldOf, graphOf};
+ghost use Rattle.finding.specs.Everyone.{Everyone};
 ghost use Rattle.checks.specs.Judged.{judgeNeeds};
 
 fn no_rows() -> [u64; 1024]
@@ -40,6 +41,17 @@ pub fn found(scheme: &[u8], c: Summary, network: &[u8], v: usize, u: usize) -> b
     let mut rows = no_rows();
     prepared::prepare(scheme, c, network, v, &mut distances, &mut rows);
     finding::finds(scheme, c, network, &distances, &rows, v, u)
+}
+
+// Marks everyone whom v finds.
+pub fn everyone(scheme: &[u8], c: Summary, network: &[u8], v: usize) -> [u16; 256]
+    requires { ⌜ Ready (now scheme) c (now network) × (v < c .members) ⌝ }
+    ensures { λ r. ⌜ Everyone (worldOf (now (scheme .entry)) (now (network .entry))) v r ⌝ }
+{
+    let mut distances = distance::no_distances();
+    let mut rows = no_rows();
+    prepared::prepare(scheme, c, network, v, &mut distances, &mut rows);
+    finding::everyone(scheme, c, network, &distances, &rows, v)
 }
 
 // Of members that are one or friends: 10 if nothing is defined; 11 if u's setting for resource r does not admit v; else 0.

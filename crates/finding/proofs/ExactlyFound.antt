@@ -10,8 +10,10 @@ use Rattle.model.specs.Graph.{Onward}
 use Rattle.model.specs.Finding.{World, paths, Begins, Goes, Finds, Allows}
 use Rattle.model.specs.Decides.{Decides}
 use Rattle.model.proofs.Deciding.{decided, said-yes, said-no}
+use Rattle.model.proofs.Walking.{found-member}
 use Rattle.starts.specs.Starts.{Begun, SearchAdded}
 use Rattle.walk.specs.Walks.{Walk, Unmet, WalkFor, WalkEnded, Walked}
+use Rattle.finding.specs.Everyone.{Everyone}
 
 module _ (w : World) (v : ℕ) where
   found-first : (k : ℕ) → Begins (paths w) v k → Finds w v k
@@ -22,9 +24,6 @@ module _ (w : World) (v : ℕ) where
       → (m : ℕ) (l : List ℕ) (u : ℕ) → m < w .graph .members → S m → Onward (Goes (paths w) v) m l u → S u
   stays S go m [] u b s e = rw (← e) s
   stays S go m (k ∷ l) u b s (g, o) = stays S go k l u (g .0) (go m k b s g) o
-
-  found-member : (u : ℕ) → Finds w v u → u < w .graph .members
-  found-member u (m, l, b, o) = stays (λ (k : ℕ). k < w .graph .members) (λ j k a s g. g .0) m l u (b .0) (b .0) o
 
   -- what the answer about u's search setting says
   module _ (u : ℕ) {a : Bool} (d : Decides a (Allows w u 0 v)) where
@@ -103,6 +102,18 @@ module _ {w : World} {v u i : ℕ} {first second third last : List ℕ} {met : B
   pub walks-decide : u < w .graph .members → Decides met (Finds w v u)
   walks-decide b = decided record { yes-if = z .found; no-if = λ n. not-found (z .ended n) (searched-starts (y .walking) s e x) b }
 
-  -- for nobody, all whom the viewer finds are seen at the end, and no others
-  pub walks-find : w .graph .members ≤ u → (k : ℕ) → k < w .graph .members → (1 ≤ getD last k 0) ↔ Finds w v k
-  walks-find o = exactly-seen (walk-ends z o) (searched-starts (y .walking) s e x)
+-- a walk for nobody, where it begins
+begun-for : {w : World} {v u : ℕ} {first : List ℕ} → w .graph .members ≤ u → Begun w v first → WalkFor w v u first first
+begun-for nobody x = record { walk = begun-walk x; kept = λ k b. omega arith; unmet = λ b. absurd (omega arith) }
+
+-- begin, search and walk, for a number that no member has: everyone whom the viewer finds is seen at the end, and nobody else
+module _ {w : World} {v i : ℕ} {first second : List ℕ} (x : Begun w v first) (s : SearchAdded w v first i second) where
+  pub searched-begun : Walk w v second
+  searched-begun = searched-walk {u = w .graph .members} (begun-for (omega arith) x) s
+
+  pub everyone-found : {u : ℕ} {met : Bool} {last : List ℕ} → i ≡ w .graph .members → w .graph .members ≤ u → Walked w v u second last met
+      → Everyone w v last
+  everyone-found e nobody z = record {
+    long = walk-ends z nobody .walking .walk .long;
+    exactly = exactly-seen (walk-ends z nobody) (searched-starts (begun-for nobody x) s e x);
+  }

@@ -1,2 +1,1 @@
-pub mod ExactlyFound
-pub mod EveryoneFound
+mod ExactlyFound
