@@ -9,13 +9,14 @@ use denote.Triple.Clauses.{atExit}
 use Rattle.model.specs.Answers.{Answers}
 use Rattle.model.specs.SchemeBytes.{schemeNeeds}
 use Rattle.model.specs.Requests.{event, set-policy, find, view, granted, answered}
-use Rattle.model.specs.Calls.{Called, Freshened, ListAnswered, DegreeAnswered, LengthOf}
+use Rattle.model.specs.Calls.{Called, Freshened, ListAnswered, DegreeAnswered, SuggestAnswered, LengthOf}
 use Rattle.claims.specs.FiveCalls.{Changed, Found, Viewed}
 use Rattle.gatekeeper.proofs.gatekeeper_check as check-contract
 use Rattle.gatekeeper.proofs.gatekeeper_network_length as length-contract
 use Rattle.gatekeeper.proofs.gatekeeper_fresh as fresh-contract
 use Rattle.gatekeeper.proofs.gatekeeper_list as list-contract
 use Rattle.gatekeeper.proofs.gatekeeper_degree as degree-contract
+use Rattle.gatekeeper.proofs.gatekeeper_suggest as suggest-contract
 use Rattle.gatekeeper.proofs.gatekeeper_check.Reads as check-reads
 use Rattle.gatekeeper.proofs.gatekeeper_network_length.Reads as length-reads
 use Rattle.gatekeeper.proofs.gatekeeper_fresh.Reads as fresh-reads
@@ -24,6 +25,7 @@ use Rattle.gatekeeper.proofs.gatekeeper_set.Reads as set-reads
 use Rattle.gatekeeper.proofs.gatekeeper_find.Reads as find-reads
 use Rattle.gatekeeper.proofs.gatekeeper_list.Reads as list-reads
 use Rattle.gatekeeper.proofs.gatekeeper_degree.Reads as degree-reads
+use Rattle.gatekeeper.proofs.gatekeeper_suggest.Reads as suggest-reads
 use Rattle.gatekeeper.proofs.gatekeeper_view.Reads as view-reads
 use Rattle.exported.specs.Cite.{ListLearnt, ListMade}
 
@@ -105,3 +107,12 @@ module _ (κs : Lfts 4) (scheme network output : RefT (List ℕ)) (count : RefT 
       (atExit list-contract.ended κs (scheme, (network, (v, (u, (output, (count, tt)))))) (tt, (tt, (tt, (tt, (left, (counted, tt)))))))
       → ListMade (now scheme) (now network) v u (length (now output)) k (granted k (take counted left) []) (now network)
   list-heard v u k left counted h = (κs, scheme, network, output, count, left, counted, refl, refl, refl, refl, (refl, h))
+
+  pub suggest-asks-nothing : (v c : ℕ) → suggest-reads.Asked κs (scheme, (network, (v, (c, (output, (count, tt))))))
+  suggest-asks-nothing v c = tt
+
+  pub suggest-learnt : (v c k : ℕ) (left : List ℕ) (counted : ℕ)
+      → suggest-reads.Learnt κs (scheme, (network, (v, (c, (output, (count, tt)))))) k
+      (atExit suggest-contract.ended κs (scheme, (network, (v, (c, (output, (count, tt)))))) (tt, (tt, (tt, (tt, (left, (counted, tt)))))))
+      ≡ SuggestAnswered (now scheme) (now network) v c (now output) (now count) k left counted
+  suggest-learnt v c k left counted = refl

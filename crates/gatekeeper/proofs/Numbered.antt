@@ -1,11 +1,12 @@
 -- An answer that is an enum, as its number and a value beside it.
-use Prim.Native.Nat.{ℕ, zero, suc}
+use Prim.Native.Nat.{ℕ, zero, suc, _≤_}
 use mathlib.Core.Path.{_≡_, refl}
 use mathlib.Core.List.{List}
 use native.Mathlib.Omega.{arith}
 use Rattle.model.specs.Answers.{Answers}
-use Rattle.model.specs.Calls.{ListAnswered, DegreeAnswered, LengthOf}
+use Rattle.model.specs.Calls.{ListAnswered, DegreeAnswered, SuggestLeft, SuggestAnswered, LengthOf}
 use Rattle.model.specs.Graph.{friendships, none}
+use Rattle.model.specs.Requests.{granted}
 use Rattle.model.specs.SchemeBytes.{schemeNeeds}
 use Rattle.scheme.specs.Checked.{Checked, numberOf as readingNumber}
 use Rattle.scheme.specs.declared.Reading.{Reading}
@@ -16,6 +17,9 @@ use Rattle.requests.specs.declared.Listed.the-variants.{Friends, Refused}
 use Rattle.degree.specs.Told.{DegreeCalled}
 use Rattle.degree.specs.declared.Told.{Told}
 use Rattle.degree.specs.declared.Told.the-variants.{Friendships, None, Refused as Untold}
+use Rattle.suggestions.specs.Answered.{SuggestCalled}
+use Rattle.suggestions.specs.declared.Suggested.{Suggested}
+use Rattle.suggestions.specs.declared.Suggested.the-variants.{Members, Refused as Unsuggested}
 use Rattle.model.proofs.Answering.{answers-unique}
 
 pub check-number : (b : List ℕ) (x : Reading) {k : ℕ} → Checked b x → k ≡ readingNumber x → Answers (schemeNeeds b) k
@@ -60,3 +64,18 @@ module _ {b net : List ℕ} {v u degree : ℕ} {x : Told} (h : DegreeCalled b ne
   degree-refused {k} e =
       let c : DegreeCalled b net v u (Untold k) = rw e at h in
       record { answered = c .answered; told = λ z. absurd (omega (arith, c .told)); kept = λ unlike. refl }
+
+module _ {b net : List ℕ} {v c : ℕ} {out : List ℕ} {count : ℕ} {x : Suggested} {after : List ℕ} (h : SuggestCalled b net v c out x after) where
+  pub suggest-granted : {n : ℕ} → x ≡ Members n → SuggestAnswered b net v c out count 0 after n
+  suggest-granted {n} e =
+      let s : SuggestCalled b net v c out (Members n) after = rw e at h in
+      record { left = s .left; kept = λ unlike. absurd (unlike refl) }
+
+  pub suggest-refused : {k : ℕ} → x ≡ Unsuggested k → SuggestAnswered b net v c out count k after count
+  suggest-refused {k} e =
+      let s : SuggestCalled b net v c out (Unsuggested k) after = rw e at h in
+      record { left = left k (s .left) (s .numbered); kept = λ unlike. refl }
+    where
+      left : (k : ℕ) → SuggestLeft b net v c out k 0 after → 1 ≤ k → SuggestLeft b net v c out k (granted k count 0) after
+      left zero l p = absurd (omega arith)
+      left (suc k) l p = l

@@ -1,8 +1,9 @@
 // The calls for other languages, on numbers and lent slices. A slice stands in C as a pointer and a count of elements.
 use degree::Told;
 use scheme::Reading;
+use suggestions::Suggested;
 ghost use Rattle.model.specs.Answers.{Answers};
-ghost use Rattle.model.specs.Calls.{Called, Freshened, ListAnswered, DegreeAnswered, LengthOf};
+ghost use Rattle.model.specs.Calls.{Called, Freshened, ListAnswered, DegreeAnswered, SuggestAnswered, LengthOf};
 ghost use Rattle.model.specs.Requests.{event, set-policy, find, view, answered};
 ghost use Rattle.model.specs.SchemeBytes.{schemeNeeds};
 
@@ -111,6 +112,27 @@ pub extern "C" fn gatekeeper_degree(
             0
         }
         Told::Refused(number) => number,
+    }
+}
+
+// Suggest: the first c of the members that v might know. Only a grant writes the count.
+#[no_mangle]
+pub extern "C" fn gatekeeper_suggest(
+    scheme: &[u8],
+    network: &[u8],
+    v: usize,
+    c: usize,
+    output: &mut [u16],
+    count: &mut usize,
+) -> u8
+    ensures { λ k. ⌜ SuggestAnswered (now (scheme .entry)) (now (network .entry)) v c (now (output .entry)) (now (count .entry)) k (now (output .exit)) (now (count .exit)) ⌝ }
+{
+    match suggestions::suggest(scheme, network, v, c, output) {
+        Suggested::Members(written) => {
+            *count = written;
+            0
+        }
+        Suggested::Refused(number) => number,
     }
 }
 

@@ -1,0 +1,3 @@
+mod Ranking
+mod SuggestAnswers
+pub mod Once
