@@ -1,8 +1,8 @@
 #!/usr/bin/env python3
-"""The gatekeeper of document 01 and the call degree of document 02, written from their text alone, to compare the proved
-program with.
+"""The gatekeeper of document 01 and the calls degree and suggest of document 02, written from their text alone, to compare the
+proved program with.
 
-With no arguments: a self check on document 01's session and edges, and on a few degrees.
+With no arguments: a self check on document 01's session and edges, and on a few degrees and suggestions.
 With two file names: the log program, on that scheme and those requests.
 """
 import sys
@@ -260,8 +260,8 @@ class Network:
 
 # ---- Finding
 
-def finds(net, v, u):
-    """Whether a chain of document 01 leads v to u: breadth first from all possible first members."""
+def found_by(net, v):
+    """The members to whom a chain of document 01 leads v: breadth first from all possible first members."""
     met = {v} | net.graph[v] | {m for m in range(net.counts.members) if net.admits(m, SEARCH, v)}
     waiting = deque(sorted(met))
     while waiting:
@@ -270,7 +270,24 @@ def finds(net, v, u):
             for friend in net.graph[m] - met:
                 met.add(friend)
                 waiting.append(friend)
-    return u in met
+    return met
+
+
+def finds(net, v, u):
+    return u in found_by(net, v)
+
+
+# ---- Suggestions
+
+def shared_count(net, v, m):
+    return len(shared_friends(net.graph, v, m))
+
+
+def suggestions(net, v):
+    """The members that v finds, who are neither v nor its friends and share at least one friend with v: most shared friends
+    first, among equals the lower number."""
+    members = [m for m in found_by(net, v) - net.graph[v] - {v} if shared_count(net, v, m) >= 1]
+    return sorted(members, key=lambda m: (-shared_count(net, v, m), m))
 
 
 # ---- The calls. A network is a bytearray; a refusal leaves it as it is.
@@ -368,6 +385,21 @@ def list_friends(scheme_bytes, network, v, u, output):
     friends = sorted(net.graph[u])
     output[:len(friends)] = friends
     return 0, len(friends)
+
+
+def suggest(scheme_bytes, network, v, c, output):
+    """The answer and the count; the first c of the members suggested to v, or all if there are fewer, go to the front of the
+    output."""
+    answer, net = read_network(scheme_bytes, network)
+    if answer != 0:
+        return answer, 0
+    if v >= net.counts.members:
+        return 6, 0
+    if len(output) < c:
+        return 13, 0
+    members = suggestions(net, v)[:c]
+    output[:len(members)] = members
+    return 0, len(members)
 
 
 def view(scheme_bytes, network, v, u, o):
@@ -508,6 +540,29 @@ def parsed(text):
     return (name, *map(int, arguments))
 
 
+def check_suggestions(expect):
+    """0 has the friends 1 and 2. 3 and 5 share one of them with 0, and 4 both. Everyone may search for 3, 4 and 5."""
+    scheme = standard_scheme(6)
+    network = bytearray(fresh_bytes(read_scheme(scheme)[1]))
+    for i, j in ((0, 1), (0, 2), (1, 2), (1, 3), (1, 4), (2, 4), (2, 5)):
+        network[pair_place(i, j)] = 3
+    for m in (3, 4, 5):
+        expect('set %d 0 12' % m, set_policy(scheme, network, m, SEARCH, 12), 0)
+
+    def page(v, c, places):
+        output = [9] * places
+        return suggest(scheme, network, v, c, output), output
+
+    for c, members in ((0, []), (1, [4]), (2, [4, 3]), (3, [4, 3, 5]), (4, [4, 3, 5])):
+        expect('suggest 0 %d' % c, page(0, c, 4), ((0, len(members)), members + [9] * (4 - len(members))))
+    expect('suggest 0 2, 2 places', page(0, 2, 2), ((0, 2), [4, 3]))
+    expect('suggest 0 5, 4 places', page(0, 5, 4), ((13, 0), [9] * 4))
+    expect('suggest 3 3, two not found', page(3, 3, 3), ((0, 1), [4, 9, 9]))
+    expect('suggest 6 5, 4 places', page(6, 5, 4), ((6, 0), [9] * 4))
+    expect('suggest, one byte less', suggest(scheme, network[:-1], 6, 1, []), (5, 0))
+    expect('suggest, no scheme', suggest(b'', network, 0, 1, []), (1, 0))
+
+
 def self_check():
     failures = 0
 
@@ -541,6 +596,7 @@ def self_check():
     network[pair_place(0, 2)] = 3
     expect('degree 0 3, by 2', degree(scheme, network, 0, 3), (0, 2))
     expect('degree 0 2, friends', degree(scheme, network, 0, 2), (0, 1))
+    check_suggestions(expect)
     expect('longest network', network_length(LIMITS), 39296)
     print('%d differ' % failures)
     return failures == 0

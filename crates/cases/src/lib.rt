@@ -1,12 +1,14 @@
-// What the programs that run stored cases share: reading a case from standard input, and a sum of bytes.
+// What the programs that run stored cases share: reading a case from standard input, an output filled before a call, and a sum of
+// bytes.
 ghost use mathlib.Core.Path.{_≡_};
-ghost use Prim.Native.Nat.{_<_};
+ghost use Prim.Native.Nat.{_<_, _≤_};
 ghost use lib.ListN.{length};
 ghost use Rattle.cases.specs.Parts.{Small, Within, Kept};
+ghost use Rattle.cases.specs.Places.{Filled};
 ghost use Rattle.cases.specs.Sums.{adler};
 use libc::STDIN_FILENO;
 
-// What reading a 2-byte number finds: the number, or the end of the input.
+// What reading a number finds: the number, or the end of the input.
 pub enum Number {
     Is(usize),
     End,
@@ -29,6 +31,17 @@ pub fn read_number() -> Number
     Number::Is(records::two(&bytes, 0))
 }
 
+// Reads an 8-byte number.
+pub fn read_long() -> Number {
+    let mut bytes = [0u8; 8];
+    if io::read_full(STDIN_FILENO, &mut bytes) < 8 {
+        return Number::End;
+    }
+    let low = records::two(&bytes, 0) + 65536 * records::two(&bytes, 2);
+    let high = records::two(&bytes, 4) + 65536 * records::two(&bytes, 6);
+    Number::Is(low + 4294967296 * high)
+}
+
 // Reads a 2-byte length and that many bytes.
 pub fn read_part(buffer: &mut [u8]) -> Part
     ensures within { λ r. ⌜ Within r (length (now (buffer .exit))) ⌝ }
@@ -42,6 +55,18 @@ pub fn read_part(buffer: &mut [u8]) -> Part
     }
     let got = io::read_full(STDIN_FILENO, &mut buffer[..size]);
     Part::Bytes(got)
+}
+
+// Puts 1000 + i at place i.
+pub fn fill(output: &mut [u16])
+    requires { ⌜ length (now output) ≤ 1000 ⌝ }
+    ensures { λ r. ⌜ Filled (now (output .exit)) (length (now (output .entry))) ⌝ }
+{
+    let mut i: usize = 0;
+    while i < output.len() {
+        output[i] = (1000 + i) as u16;
+        i += 1;
+    }
 }
 
 fn wide(x: u8) -> u64

@@ -27,17 +27,6 @@ fn read_numbers() -> Numbers {
     )
 }
 
-// Puts 1000 + i at place i.
-fn fill(output: &mut [u16])
-    requires { ⌜ length (now output) ≤ 1000 ⌝ }
-{
-    let mut i: usize = 0;
-    while i < output.len() {
-        output[i] = (1000 + i) as u16;
-        i += 1;
-    }
-}
-
 // The request of a kind and its arguments, or none.
 enum Decoded {
     Asks(Request),
@@ -59,7 +48,7 @@ fn decode(kind: usize, x: usize, y: usize, z: usize) -> Decoded {
 fn run_list(scheme: &[u8], network: &mut [u8], request: Request, output: &mut [u16])
     requires { ⌜ length (now output) ≤ 1000 ⌝ }
 {
-    fill(output);
+    cases::fill(output);
     let reply = calls::call(scheme, network, request, output);
     printing::answer(reply.answer);
     if reply.answer == 0 {

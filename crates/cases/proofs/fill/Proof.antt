@@ -1,19 +1,22 @@
--- `request_cases::fill` is safe and ends.
+-- `cases::fill` leaves 1000 + i at each place i.
 use Prim.Native.Nat.{_≤_, _-_}
 use mathlib.Core.Path.{_≡_}
+use native.Mathlib.Omega.{arith}
 use borrow.Author.Needs.{needs}
 use lib.ListN.{length}
-use Rattle.request_cases.proofs.fill.Statement.{statement}
-use Rattle.request_cases.proofs.fill.Tie as tie
+use Rattle.cases.specs.Places.{Filled}
+use Rattle.cases.proofs.Filling.{filled-none, filled-more}
+use Rattle.cases.proofs.fill.Statement.{statement}
+use Rattle.cases.proofs.fill.Tie as tie
 
 abbrev Inv-loop : tie.InvT-loop
-Inv-loop output₀ i₀ output i = (length output ≡ length output₀) × (i ≤ length output₀)
+Inv-loop output₀ i₀ output i = (length output ≡ length output₀) × (i ≤ length output₀) × Filled output i
 
 abbrev μ-loop : tie.MeasureT-loop
 μ-loop output₀ i₀ output i = length output₀ - i
 
 loop-holds : tie.Need-loop-holds Inv-loop μ-loop
-loop-holds c = search needs
+loop-holds c = search (filled-none, needs)
 
 add-output : tie.Need-add-output Inv-loop μ-loop
 add-output c = search needs
@@ -34,13 +37,13 @@ loop-less : tie.Need-loop-less Inv-loop μ-loop
 loop-less c = search needs
 
 loop-again : tie.Need-loop-again Inv-loop μ-loop
-loop-again c = search needs
+loop-again c = search (filled-more, needs)
 
 same-length : tie.Need-same-length Inv-loop μ-loop
 same-length c = search needs
 
 returns : tie.Need-returns Inv-loop μ-loop
-returns c = search needs
+returns c = λ k l. c .before .loop .inv .2 k (omega arith)
 
 pub fill-spec : {M : Type 1} → statement M
 fill-spec =
