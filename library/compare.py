@@ -18,8 +18,9 @@ ROUNDS = 400
 REQUESTS = 20
 UNTOUCHED = 999
 NONE = 65535            # what stands in the place lent for a degree
-FEWEST = 40             # how often a degree has to be a number above 0, none, and refused
-degrees = Counter()
+LARGEST = 2 ** 64 - 1
+FEWEST = 40             # how often each kind of degree and of suggestions has to occur
+degrees, pages = Counter(), Counter()
 
 
 def expect(what, got, wanted):
@@ -52,13 +53,42 @@ def compare_degree(scheme, network, v, u):
     expect('place of a degree', place.value, UNTOUCHED if answer else NONE if number is None else number)
 
 
+def asked(members):
+    """The numbers up to n; where a changed byte made n large, the first eight and the last two of them."""
+    return sorted({*range(min(members, 8)), members - 1, members})
+
+
 def compare_degrees(scheme, network, members):
-    """Of all pairs of numbers up to n, and of member 0 and numbers that end in the bytes of a member."""
-    for v, u in product(range(members + 1), repeat=2):
+    """Of all pairs of asked numbers, and of member 0 and numbers that end in the bytes of a member."""
+    for v, u in product(asked(members), repeat=2):
         compare_degree(scheme, network, v, u)
     for far in (2 ** 8, 2 ** 16, 2 ** 32):
         compare_degree(scheme, network, far, 0)
         compare_degree(scheme, network, 0, far)
+
+
+def compare_suggest(scheme, network, v, c, places):
+    output, wanted_output = (ctypes.c_uint16 * places)(*[UNTOUCHED] * places), [UNTOUCHED] * places
+    answer, number = ref.suggest(scheme, network, v, c, wanted_output)
+    pages['refused' if answer else 'nobody' if number == 0 else 'c' if number == c else 'fewer'] += 1
+    count = ctypes.c_size_t(UNTOUCHED)
+    got = gatekeeper._request('suggest', scheme, network, False, output, places, ctypes.byref(count), v=v, c=c)
+    expect('suggest', got, answer)
+    expect('place of a count', count.value, UNTOUCHED if answer else number)
+    expect('output', [*output], wanted_output)
+    output = array('H', [UNTOUCHED] * places)
+    expect('suggest', gatekeeper.suggest(scheme, network, v, c, output), (answer, None if answer else number))
+    expect('output', output.tolist(), wanted_output)
+
+
+def compare_suggestions(rng, scheme, network, members):
+    """Of all asked numbers, in outputs of c places, one less, one more or n; and of numbers whose low bytes are a member, or no
+    more than the places."""
+    for v, c in product(asked(members), repeat=2):
+        compare_suggest(scheme, network, v, c, rng.choice([c, c, max(c - 1, 0), c + 1, members]))
+    for far in (2 ** 8, 2 ** 16, 2 ** 32, LARGEST):
+        compare_suggest(scheme, network, far, 1, 1)
+        compare_suggest(scheme, network, 0, far, members)
 
 
 def compare_request(rng, scheme, network, members):
@@ -91,6 +121,7 @@ def compare_scheme(rng):
     for _ in range(REQUESTS):
         compare_request(rng, scheme, network, members)
     compare_degrees(scheme, network, members)
+    compare_suggestions(rng, scheme, network, members)
     ours, wanted = bytearray(network), bytearray(network)
     expect('fresh', gatekeeper.fresh(scheme, ours), ref.fresh(scheme, wanted))
     expect('network', ours, wanted)
@@ -102,7 +133,9 @@ def main():
         compare_scheme(rng)
     if min(degrees[kind] for kind in ('number', 'none', 'refused')) < FEWEST:
         sys.exit('too few degrees of a kind: %s' % dict(degrees))
-    print('library: %d random schemes with %d requests and all degrees each answer as reference.py does' % (ROUNDS, REQUESTS))
+    if min(pages[kind] for kind in ('c', 'fewer', 'nobody', 'refused')) < FEWEST:
+        sys.exit('too few suggestions of a kind: %s' % dict(pages))
+    print('library: %d random schemes with %d requests, degrees and suggestions each answer as reference.py does' % (ROUNDS, REQUESTS))
 
 
 if __name__ == '__main__':

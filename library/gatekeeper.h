@@ -5,7 +5,8 @@
  * - Each pointer is valid for its length: scheme and network for that many bytes, output for that many uint16_t,
  *   count for one size_t, degree for one uint16_t. A length counts elements, not bytes. With length 0 the pointer may be
  *   NULL; count and degree may not.
- * - What a call may write (network in fresh, event and set; output and count in list; degree in degree) is writable.
+ * - What a call may write (network in fresh, event and set; output and count in list and suggest; degree in degree) is
+ *   writable.
  * - output and degree are aligned for uint16_t, and count for size_t.
  * - What a call may write overlaps nothing else that is lent to it. What it only reads may be the same.
  * - While a call runs, no other thread writes anything lent to it, or reads a network, an output, a count or a degree that it
@@ -38,7 +39,7 @@ enum gatekeeper_answer {
     GATEKEEPER_NO_NEXT_STATE = 10,    /* event: the primitive is undefined in the pair's state, for v's side */
     GATEKEEPER_NOT_ADMITTED = 11,     /* event, list, view: u's setting does not admit v */
     GATEKEEPER_NOT_OFFERED = 12,      /* set: the policy may not be chosen for the resource */
-    GATEKEEPER_OUTPUT_SHORT = 13      /* list: the output has fewer places than there are members */
+    GATEKEEPER_OUTPUT_SHORT = 13      /* the output has fewer places than there are members (list), or than c (suggest) */
 };
 
 /* The scheme check: 0 to 4. */
@@ -73,6 +74,13 @@ uint8_t gatekeeper_degree(const uint8_t *scheme, size_t scheme_length, const uin
  * the places behind them stay. A refusal writes neither. n places are always enough. */
 uint8_t gatekeeper_list(const uint8_t *scheme, size_t scheme_length, const uint8_t *network, size_t network_length,
                         size_t v, size_t u, uint16_t *output, size_t output_length, size_t *count);
+
+/* Member v asks for c members that it might know: those that v finds, who are neither v nor v's friends and share at least one
+ * friend with v, most shared friends first, among equals the lower member number. A grant writes the first c of them, or all
+ * if there are fewer, at the front of output, and their number to count; the places behind them stay. A refusal writes
+ * neither. There must be c places even where fewer are written. */
+uint8_t gatekeeper_suggest(const uint8_t *scheme, size_t scheme_length, const uint8_t *network, size_t network_length,
+                           size_t v, size_t c, uint16_t *output, size_t output_length, size_t *count);
 
 /* Member v asks for item o of member u. */
 uint8_t gatekeeper_view(const uint8_t *scheme, size_t scheme_length, const uint8_t *network, size_t network_length,

@@ -1,8 +1,8 @@
 """The gatekeeper's calls for Python, over libgatekeeper.so, which library/build makes.
 
 A scheme is any object with bytes, a network too (one that can be written, as a bytearray, where a call may write it), and the
-output of a list is a writable object of 16-bit numbers, as array('H', ..); arrays of ctypes are such objects. Every call
-answers document 01's number, one of Answer. An argument that cannot be passed raises ValueError, and then nothing is called.
+output of list and suggest is a writable object of 16-bit numbers, as array('H', ..); arrays of ctypes are such objects. Every
+call answers document 01's number, one of Answer. An argument that cannot be passed raises ValueError, and then nothing is called.
 
 What gatekeeper.h asks of a caller is kept here: lengths are taken from the objects, what a call may write overlaps nothing
 else that is lent, and a call holds the interpreter's lock, so that no other thread of it runs meanwhile. No object is kept
@@ -18,7 +18,7 @@ import sys
 from collections import namedtuple
 from contextlib import contextmanager
 
-__all__ = ['Answer', 'check', 'degree', 'event', 'find', 'fresh', 'network_length', 'view']
+__all__ = ['Answer', 'check', 'degree', 'event', 'find', 'fresh', 'network_length', 'suggest', 'view']
 
 
 class Answer(enum.IntEnum):
@@ -47,10 +47,11 @@ except OSError as error:
 
 _BYTES = [ctypes.c_void_p, ctypes.c_size_t]
 _NUMBER = [ctypes.c_size_t]
+_OUTPUT = _BYTES + [ctypes.POINTER(ctypes.c_size_t)]
 _SIGNATURES = {
     'check': _BYTES, 'network_length': _BYTES, 'fresh': 2 * _BYTES, 'find': 2 * _BYTES + 2 * _NUMBER,
     'event': 2 * _BYTES + 3 * _NUMBER, 'set': 2 * _BYTES + 3 * _NUMBER, 'view': 2 * _BYTES + 3 * _NUMBER,
-    'list': 2 * _BYTES + 2 * _NUMBER + _BYTES + [ctypes.POINTER(ctypes.c_size_t)],
+    'list': 2 * _BYTES + 2 * _NUMBER + _OUTPUT, 'suggest': 2 * _BYTES + 2 * _NUMBER + _OUTPUT,
     'degree': 2 * _BYTES + 2 * _NUMBER + [ctypes.POINTER(ctypes.c_uint16)],
 }
 _calls = {}
@@ -114,6 +115,17 @@ def _request(call, scheme, network, written, *places, **numbers):
         return _calls[call](*_apart(scheme_part, network_part), *values, *places)
 
 
+def _written(call, scheme, network, output, **numbers):
+    """A call's answer, and how many members it wrote at the front of the output, None if refused."""
+    values = [_number(value, name) for name, value in numbers.items()]
+    count = ctypes.c_size_t()
+    with _lent(scheme, 'scheme') as scheme_part, _lent(network, 'network') as network_part, \
+            _lent(output, 'output', True, 'H', 2) as output_part:
+        places = _apart(scheme_part, network_part, output_part)
+        answer = _calls[call](*places[:4], *values, *places[4:], ctypes.byref(count))
+    return answer, count.value if answer == Answer.GRANTED else None
+
+
 def check(scheme):
     """The scheme check."""
     with _lent(scheme, 'scheme') as part:
@@ -155,13 +167,13 @@ def degree(scheme, network, v, u):
 
 def list(scheme, network, v, u, output):
     """Member v asks for u's friends: the answer, and how many were written at the front of the output, None if refused."""
-    numbers = _number(v, 'v'), _number(u, 'u')
-    count = ctypes.c_size_t()
-    with _lent(scheme, 'scheme') as scheme_part, _lent(network, 'network') as network_part, \
-            _lent(output, 'output', True, 'H', 2) as output_part:
-        places = _apart(scheme_part, network_part, output_part)
-        answer = _calls['list'](*places[:4], *numbers, *places[4:], ctypes.byref(count))
-    return answer, count.value if answer == Answer.GRANTED else None
+    return _written('list', scheme, network, output, v=v, u=u)
+
+
+def suggest(scheme, network, v, c, output):
+    """Member v asks for c members that it might know: the answer, and how many were written at the front of the output, None if
+    refused."""
+    return _written('suggest', scheme, network, output, v=v, c=c)
 
 
 def view(scheme, network, v, u, o):

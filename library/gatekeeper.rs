@@ -41,6 +41,10 @@ mod c {
             scheme: *const u8, scheme_length: usize, network: *const u8, network_length: usize, v: usize, u: usize,
             output: *mut u16, output_length: usize, count: *mut usize,
         ) -> u8;
+        pub fn gatekeeper_suggest(
+            scheme: *const u8, scheme_length: usize, network: *const u8, network_length: usize, v: usize, c: usize,
+            output: *mut u16, output_length: usize, count: *mut usize,
+        ) -> u8;
         pub fn gatekeeper_view(
             scheme: *const u8, scheme_length: usize, network: *const u8, network_length: usize, v: usize, u: usize, o: usize,
         ) -> u8;
@@ -99,6 +103,18 @@ pub fn list(scheme: &[u8], network: &[u8], v: usize, u: usize, output: &mut [u16
     let answer = unsafe {
         c::gatekeeper_list(
             scheme.as_ptr(), scheme.len(), network.as_ptr(), network.len(), v, u,
+            output.as_mut_ptr(), output.len(), &mut count,
+        )
+    };
+    if answer == answer::GRANTED { Ok(count) } else { Err(answer) }
+}
+
+/// Member v asks for c members that it might know: how many are at the front of the output, or the refusal's number.
+pub fn suggest(scheme: &[u8], network: &[u8], v: usize, c: usize, output: &mut [u16]) -> Result<usize, u8> {
+    let mut count = 0;
+    let answer = unsafe {
+        c::gatekeeper_suggest(
+            scheme.as_ptr(), scheme.len(), network.as_ptr(), network.len(), v, c,
             output.as_mut_ptr(), output.len(), &mut count,
         )
     };

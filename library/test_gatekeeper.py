@@ -16,7 +16,7 @@ import gatekeeper
 import reference as ref
 
 SCHEME = ref.standard_scheme(4)
-CALLS = {'check', 'degree', 'event', 'find', 'fresh', 'list', 'network_length', 'set', 'view'}
+CALLS = {'check', 'degree', 'event', 'find', 'fresh', 'list', 'network_length', 'set', 'suggest', 'view'}
 OTHER_ORDER = (ctypes.c_uint16.__ctype_be__ if sys.byteorder == 'little' else ctypes.c_uint16.__ctype_le__) * 4
 
 
@@ -57,6 +57,7 @@ class Arguments(unittest.TestCase):
         for output in ([0] * 4, bytes(8), array('I', 4 * [0]), (ctypes.c_int16 * 4)(), OTHER_ORDER(),
                        memoryview(bytearray(9))[1:].cast('H')):
             self.refused(gatekeeper.list, SCHEME, network, 0, 0, output)
+            self.refused(gatekeeper.suggest, SCHEME, network, 0, 0, output)
 
     def test_degree(self):
         """A number, none, and a refusal, which leaves the lent place alone."""
@@ -74,6 +75,27 @@ class Arguments(unittest.TestCase):
         self.assertEqual(gatekeeper.degree(SCHEME, network[:-1], 0, 0), (5, None))
         self.assertEqual(gatekeeper.degree(b'', network, 0, 0), (1, None))
 
+    def test_suggest(self):
+        """The first c, all where there are fewer, nobody, and a refusal, which leaves output and count alone."""
+        network = fresh_network()
+        for m in (2, 3):
+            self.assertEqual(gatekeeper.set(SCHEME, network, m, 0, 12), 0)  # everyone may search for m
+        network[0] = network[2] = network[4] = 3                            # 1 has the friends 0, 2 and 3
+        for v, c, answer, members in ((0, 0, 0, []), (0, 1, 0, [2]), (0, 2, 0, [2, 3]), (0, 4, 0, [2, 3]), (2, 4, 0, [3]),
+                                      (1, 4, 0, []), (0, 5, 13, []), (0, 2 ** 16, 13, []), (0, 2 ** 64 - 1, 13, []), (4, 1, 6, []),
+                                      (4, 5, 6, []), (2 ** 16, 1, 6, []), (2 ** 64 - 1, 2 ** 64 - 1, 6, [])):
+            output, wanted = array('H', 4 * [9]), members + [9] * (4 - len(members))
+            self.assertEqual(gatekeeper.suggest(SCHEME, network, v, c, output), (answer, None if answer else len(members)))
+            self.assertEqual(output.tolist(), wanted)
+            for before in (0, 7, 2 ** 64 - 1):
+                places, count = (ctypes.c_uint16 * 4)(9, 9, 9, 9), ctypes.c_size_t(before)
+                gatekeeper._request('suggest', SCHEME, network, False, places, 4, ctypes.byref(count), v=v, c=c)
+                self.assertEqual(([*places], count.value), (wanted, before if answer else len(members)))
+        for c, told in ((0, (0, 0)), (1, (13, None))):
+            self.assertEqual(gatekeeper.suggest(SCHEME, network, 0, c, array('H')), told)
+        self.assertEqual(gatekeeper.suggest(SCHEME, network[:-1], 4, 1, array('H')), (5, None))
+        self.assertEqual(gatekeeper.suggest(b'', network, 4, 1, array('H')), (1, None))
+
     def test_what_cannot_be_lent(self):
         network = fresh_network()
         self.refused(gatekeeper.check, 'text')
@@ -88,6 +110,8 @@ class Arguments(unittest.TestCase):
         for number in (-1, 2 ** 64, 1.0, '1', None):
             self.refused(gatekeeper.find, SCHEME, network, number, 0)
             self.refused(gatekeeper.degree, SCHEME, network, 0, number)
+            self.refused(gatekeeper.suggest, SCHEME, network, number, 0, array('H'))
+            self.refused(gatekeeper.suggest, SCHEME, network, 0, number, array('H'))
 
     def test_overlap(self):
         """What is only read may be the same; what is written may not."""
@@ -96,10 +120,12 @@ class Arguments(unittest.TestCase):
             self.assertEqual(gatekeeper.view(same, same, 0, 0, 0), 5)
             self.assertEqual(gatekeeper.degree(same, same, 0, 0), (5, None))
             self.assertEqual(gatekeeper.list(same, same, 0, 0, array('H', 4 * [0])), (5, None))
+            self.assertEqual(gatekeeper.suggest(same, same, 0, 0, array('H')), (5, None))
         network = fresh_network()
         self.refused(gatekeeper.fresh, network, network)
         self.refused(gatekeeper.set, network, network, 0, 0, 0)
         self.refused(gatekeeper.list, SCHEME, network, 0, 0, memoryview(network)[2:12].cast('H'))
+        self.refused(gatekeeper.suggest, SCHEME, network, 0, 0, memoryview(network)[2:12].cast('H'))
 
     def test_nothing_stays_locked(self):
         """After a call and after an error, which is kept, what was lent can be resized."""
@@ -119,11 +145,12 @@ class Arguments(unittest.TestCase):
                     for part in lent:
                         if isinstance(part, bytearray):
                             part.append(0)
-        for output in (array('H', 4 * [0]), array('I', 4 * [0])):
-            scheme, network = bytearray(SCHEME), fresh_network()
-            kept.append(tried(gatekeeper.list, scheme, network, 0, 0, output))
-            for part in (scheme, network, output):
-                part.append(0)
+        for call in (gatekeeper.list, gatekeeper.suggest):
+            for output in (array('H', 4 * [0]), array('I', 4 * [0])):
+                scheme, network = bytearray(SCHEME), fresh_network()
+                kept.append(tried(call, scheme, network, 0, 0, output))
+                for part in (scheme, network, output):
+                    part.append(0)
         odd = bytearray(9)
         with memoryview(odd)[1:].cast('H') as output:
             kept.append(tried(gatekeeper.list, SCHEME, fresh_network(), 0, 0, output))
