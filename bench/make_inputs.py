@@ -1,6 +1,6 @@
 #!/usr/bin/env python3
 """Writes what bench/bench.rs runs: make_inputs.py FOLDER. For each name in FOLDER/names the files NAME.scheme, NAME.network,
-NAME.finds and NAME.mix; the last two are requests as text, one to a line."""
+NAME.finds, NAME.mix and NAME.suggestions; the last three are requests as text, one to a line, and the last is empty for most."""
 import os
 import random
 import sys
@@ -14,6 +14,7 @@ MOST = (16, 8, 16)          # states, primitives, items: the longest network
 FRIENDS = 3                 # the state that makes friends, in every scheme here
 FINDS, MIX = 32, 60         # requests to a file
 FEW_FINDS, FEW_MIX = 4, 10  # under the nested scheme, where one may take a tenth of a second
+WANTED = 20                 # suggestions
 
 
 # ---- Schemes
@@ -47,6 +48,13 @@ def dense(n, rng):
 
 def full(n, rng):
     return lambda i, j: True
+
+
+def half(n, rng):
+    """Half of all pairs."""
+    pairs = [(i, j) for j in range(n) for i in range(j)]
+    chosen = set(rng.sample(pairs, len(pairs) // 2))
+    return lambda i, j: (i, j) in chosen
 
 
 def sparse(n, rng):
@@ -105,6 +113,7 @@ CASES = [
     ('dense_standard', ref.standard_scheme, dense, {0: [8], 1: [2, 3, 4]}, opposite),
     ('dense_relations', relations_scheme, dense, {0: [0]}, opposite),
     ('full_standard', ref.standard_scheme, full, {}, anyone),
+    ('half_standard', ref.standard_scheme, half, {0: [8], 1: [4]}, anyone),
     ('sparse_standard', ref.standard_scheme, sparse, {0: [8, 10]}, anyone),
     ('sparse_relations', relations_scheme, sparse, {}, anyone),
     ('chain_standard', ref.standard_scheme, chain, {0: [8], 1: [4]}, ends),
@@ -112,6 +121,9 @@ CASES = [
     ('full_nested', nested_scheme, full, {}, anyone),
     ('parts_nested', nested_scheme, parts, {}, ends),
 ]
+
+# The cases in which each member in turn asks for suggestions.
+SUGGESTING = {'half_standard', 'sparse_standard', 'chain_standard'}
 
 
 def write(folder, name, data):
@@ -138,6 +150,7 @@ def main(folder):
             write(folder, names[-1] + '.network', network(scheme, graph(n, rng), settings, rng))
             write(folder, names[-1] + '.finds', lines(('find', *pick(n, rng)) for _ in range(finds)))
             write(folder, names[-1] + '.mix', lines(mixed(scheme, n, pick, rng) for _ in range(mix)))
+            write(folder, names[-1] + '.suggestions', lines(('suggest', v, WANTED) for v in range(n) if name in SUGGESTING))
     write(folder, 'names', lines((name,) for name in names))
 
 

@@ -1,13 +1,15 @@
-//! The gatekeeper of document 01 as a plain Rust program, to compare the library's speed and answers with. It reads the
-//! scheme into structs and then follows the document's sentences. It comes in two kinds: LISTED lists every member's friends
-//! once a request; the other reads a member's friends off the pair bytes where they are asked for.
+//! The gatekeeper of document 01, and document 02's suggestions, as a plain Rust program, to compare the library's speed and
+//! answers with. It reads the scheme into structs and then follows the documents' sentences. It comes in two kinds: LISTED
+//! lists every member's friends once a request; the other reads a member's friends off the pair bytes where they are asked for.
 
 use std::borrow::Cow;
+use std::cmp::Reverse;
 use std::collections::VecDeque;
 
 const UNDEFINED: u8 = 255;
 const SEARCH: usize = 0;
 const TRAVERSAL: usize = 1;
+const NOBODY: usize = usize::MAX; // whom no walk meets
 
 enum Policy {
     NoOne,
@@ -306,6 +308,33 @@ impl<'a, const LISTED: bool> Network<'a, LISTED> {
         false
     }
 
+    /// Whether v finds each member: one walk from all who may come first, until no member is left to expand.
+    fn all_found(&self, v: usize) -> Vec<bool> {
+        let first = |m| m == v || self.are_friends(m, v) || self.admits(m, SEARCH, v);
+        let mut seen: Vec<bool> = (0..self.scheme.members).map(first).collect();
+        let mut waiting: VecDeque<usize> = (0..self.scheme.members).filter(|&m| seen[m]).collect();
+        self.walk(v, NOBODY, &mut seen, &mut waiting);
+        seen
+    }
+
+    /// How many friends each of the members shares with v, counted member by member, and that member.
+    fn shared_counts(&self, v: usize, members: &[usize]) -> Vec<(usize, usize)> {
+        let friends = self.friends(v);
+        let shared = |u| friends.iter().filter(|&&m| self.are_friends(m, u)).count();
+        members.iter().map(|&u| (shared(u), u)).collect()
+    }
+
+    /// Whom v might know, with counts: most shared friends first, among equals the lower number.
+    fn suggestions(&self, v: usize) -> Vec<(usize, usize)> {
+        let found = self.all_found(v);
+        let others: Vec<usize> =
+            (0..self.scheme.members).filter(|&m| found[m] && m != v && !self.are_friends(m, v)).collect();
+        let mut counted = self.shared_counts(v, &others);
+        counted.retain(|&(count, _)| count > 0);
+        counted.sort_unstable_by_key(|&(count, m)| (Reverse(count), m));
+        counted
+    }
+
     fn both_members(&self, v: usize, u: usize) -> Result<(), u8> {
         if v < self.scheme.members && u < self.scheme.members { Ok(()) } else { Err(6) }
     }
@@ -424,4 +453,20 @@ fn judge_view<const LISTED: bool>(scheme: &[u8], network: &[u8], v: usize, u: us
 
 pub fn view<const LISTED: bool>(scheme: &[u8], network: &[u8], v: usize, u: usize, o: usize) -> u8 {
     answer(judge_view::<LISTED>(scheme, network, v, u, o))
+}
+
+pub fn suggest<const LISTED: bool>(scheme: &[u8], network: &[u8], v: usize, c: usize, output: &mut [u16]) -> Result<usize, u8> {
+    let scheme = Scheme::read(scheme)?;
+    let network = Network::<LISTED>::read(&scheme, network)?;
+    if v >= scheme.members {
+        return Err(6);
+    }
+    if output.len() < c {
+        return Err(13);
+    }
+    let suggestions = network.suggestions(v);
+    for (place, (_, m)) in output[..c].iter_mut().zip(&suggestions) {
+        *place = *m as u16;
+    }
+    Ok(c.min(suggestions.len()))
 }
