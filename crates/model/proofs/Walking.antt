@@ -1,4 +1,4 @@
--- A computed set of members that is closed under steps is exactly the set of those that are found.
+-- A computed set of members that is closed under steps is exactly the set of those that are found, and there is one.
 use Prim.Native.Nat.{ℕ, zero, suc, _<_, _≤_, zero-le}
 use mathlib.Core.Path.{_≡_, refl}
 use mathlib.Core.Bool.{Bool, true, false, _&&_, _||_, not, cond, true≢false, false≢true}

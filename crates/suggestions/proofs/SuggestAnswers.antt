@@ -8,7 +8,7 @@ use native.Mathlib.Omega.{arith}
 use lib.ListN.{length, getD, take}
 use Rattle.model.specs.Answers.{Requirement, Answers}
 use Rattle.model.specs.Graph.{shared}
-use Rattle.model.specs.Suggestions.{Suggestible, Suggestions}
+use Rattle.model.specs.Suggestions.{Suggestible}
 use Rattle.model.specs.Calls.{suggestCallNeeds}
 use Rattle.model.proofs.Walking.{found-member}
 use Rattle.model.proofs.Suggesting.{suggestions-ranked}

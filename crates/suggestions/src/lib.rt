@@ -25,8 +25,8 @@ fn no_ranks() -> [u32; 256]
     [0u32; 256]
 }
 
-// How many friends m shares with v, whose friends are given; 0 where m may not be suggested: where v does not find it, or it is
-// not just two friendships off.
+// How many friends m shares with v, whose friends are given; 0 where m may not be suggested: v does not find it, or it is v, a
+// friend, or more than two friendships off.
 fn rank(
     scheme: &[u8],
     summary: Summary,

@@ -5,12 +5,6 @@ use Rattle.network.specs.Ready.{worldOf}
 use Rattle.finding.proofs.ExactlyFound.{searched-begun, everyone-found}
 use Rattle.finding.proofs.everyone.Statement.{statement}
 use Rattle.finding.proofs.everyone.Tie as tie
-use Rattle.finding.proofs.everyone.Reads as reads
-use Rattle.finding.proofs.everyone.Lts as lts
-use Rattle.starts.proofs.begin.Reads as begin-reads
-use Rattle.starts.proofs.search.Reads as search-reads
-use Rattle.starts.proofs.unseen.Reads as unseen-reads
-use Rattle.walk.proofs.walk.Reads as walk-reads
 
 -- where the function begins
 abbrev start : tie.After-search → tie.Start
@@ -19,34 +13,27 @@ start s = s .before .before .before .before .before .before .before .before .bef
 unseen-requires : tie.Need-unseen-requires
 unseen-requires c κs = search needs
 
--- src/lib.rt:51:42
 slice-aggregate-begin : tie.Need-slice-aggregate-begin
 slice-aggregate-begin c = search needs
 
--- src/lib.rt:51:5
 begin-requires : tie.Need-begin-requires
 begin-requires c κs = search needs
 
--- src/lib.rt:52:71
 slice-aggregate-search : tie.Need-slice-aggregate-search
 slice-aggregate-search c = search needs
 
--- src/lib.rt:52:5
 search-requires : tie.Need-search-requires
 search-requires c κs = search needs
 
--- src/lib.rt:53:67
 slice-aggregate-walk : tie.Need-slice-aggregate-walk
 slice-aggregate-walk c = search needs
 
--- src/lib.rt:53:5
 walk-requires : tie.Need-walk-requires
 walk-requires c κs =
     let p = start (c .before .before) .pre in
     let e = p .0 .counts .members in
     (p .0, p .1, p .2, searched-begun (c .before .before .before .before .before .begin .ensures) (c .before .before .search .ensures), λ b. absurd (omega arith))
 
--- src/lib.rt:39:1
 returns : tie.Need-returns
 returns c =
     let g = c .before .before .before .before in
