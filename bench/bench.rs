@@ -1,4 +1,5 @@
-//! Runs the library and a plain Rust program on the same requests, in one process, and compares answers and times: bench FOLDER
+//! Runs the library and a plain Rust program on the same requests, in one process, and compares answers and times: bench FOLDER.
+//! With the cfg `before` the library of another checkout runs beside them.
 //!
 //! A batch runs all requests of a file from the stored network, so often that it takes a millisecond. Before each run network
 //! and output are restored, within the measured time and for all programs alike; nothing is flushed from the processor's
@@ -6,6 +7,9 @@
 
 #[path = "../library/gatekeeper.rs"]
 mod gatekeeper;
+#[cfg(before)]
+#[path = "../target/bench/before.rs"]
+mod before;
 mod plain;
 
 use std::hint::black_box;
@@ -75,7 +79,7 @@ fn read_case(folder: &str, name: &str) -> Case {
     }
 }
 
-/// What one of the two programs works on, and what it answered: a count where members were written.
+/// What one of the programs works on, and what it answered: a count where members were written.
 struct Run {
     network: Vec<u8>,
     output: [u16; 256],
@@ -101,32 +105,48 @@ fn listed(result: Result<usize, u8>) -> (u8, usize) {
     }
 }
 
-fn ask_library(scheme: &[u8], run: &mut Run, request: &Request) -> (u8, usize) {
-    match *request {
-        Request::Event(v, u, a) => (gatekeeper::event(scheme, &mut run.network, v, u, a), 0),
-        Request::Set(u, r, p) => (gatekeeper::set(scheme, &mut run.network, u, r, p), 0),
-        Request::Find(v, u) => (gatekeeper::find(scheme, &run.network, v, u), 0),
-        Request::List(v, u) => listed(gatekeeper::list(scheme, &run.network, v, u, &mut run.output)),
-        Request::View(v, u, o) => (gatekeeper::view(scheme, &run.network, v, u, o), 0),
-        Request::Suggest(v, c) => listed(gatekeeper::suggest(scheme, &run.network, v, c, &mut run.output)),
-    }
+macro_rules! define_ask {
+    ($name:ident, $library:ident) => {
+        fn $name(scheme: &[u8], run: &mut Run, request: &Request) -> (u8, usize) {
+            match *request {
+                Request::Event(v, u, a) => ($library::event(scheme, &mut run.network, v, u, a), 0),
+                Request::Set(u, r, p) => ($library::set(scheme, &mut run.network, u, r, p), 0),
+                Request::Find(v, u) => ($library::find(scheme, &run.network, v, u), 0),
+                Request::List(v, u) => listed($library::list(scheme, &run.network, v, u, &mut run.output)),
+                Request::View(v, u, o) => ($library::view(scheme, &run.network, v, u, o), 0),
+                Request::Suggest(v, c) => listed($library::suggest(scheme, &run.network, v, c, &mut run.output)),
+            }
+        }
+    };
 }
 
-fn ask_plain<const LISTED: bool>(scheme: &[u8], run: &mut Run, request: &Request) -> (u8, usize) {
+define_ask!(ask_library, gatekeeper);
+#[cfg(before)]
+define_ask!(ask_before, before);
+
+fn ask_plain<const FORM: u8>(scheme: &[u8], run: &mut Run, request: &Request) -> (u8, usize) {
     match *request {
-        Request::Event(v, u, a) => (plain::event::<LISTED>(scheme, &mut run.network, v, u, a), 0),
+        Request::Event(v, u, a) => (plain::event::<FORM>(scheme, &mut run.network, v, u, a), 0),
         Request::Set(u, r, p) => (plain::set(scheme, &mut run.network, u, r, p), 0),
-        Request::Find(v, u) => (plain::find::<LISTED>(scheme, &run.network, v, u), 0),
-        Request::List(v, u) => listed(plain::list::<LISTED>(scheme, &run.network, v, u, &mut run.output)),
-        Request::View(v, u, o) => (plain::view::<LISTED>(scheme, &run.network, v, u, o), 0),
-        Request::Suggest(v, c) => listed(plain::suggest::<LISTED>(scheme, &run.network, v, c, &mut run.output)),
+        Request::Find(v, u) => (plain::find::<FORM>(scheme, &run.network, v, u), 0),
+        Request::List(v, u) => listed(plain::list::<FORM>(scheme, &run.network, v, u, &mut run.output)),
+        Request::View(v, u, o) => (plain::view::<FORM>(scheme, &run.network, v, u, o), 0),
+        Request::Suggest(v, c) => listed(plain::suggest::<FORM>(scheme, &run.network, v, c, &mut run.output)),
     }
 }
 
 type Ask = fn(&[u8], &mut Run, &Request) -> (u8, usize);
 
-/// The library, the plain program that lists friends, and the one that reads them off the pair bytes.
-const PROGRAMS: [Ask; 3] = [ask_library, ask_plain::<true>, ask_plain::<false>];
+const COUNT: usize = if cfg!(before) { 5 } else { 4 };
+
+const PROGRAMS: [(&str, Ask); COUNT] = [
+    ("library", ask_library),
+    ("lists", ask_plain::<{ plain::LISTS }>),
+    ("pairs", ask_plain::<{ plain::PAIRS }>),
+    ("rows", ask_plain::<{ plain::ROWS }>),
+    #[cfg(before)]
+    ("before", ask_before),
+];
 
 /// Compares every answer, every output and every byte of the network, request by request.
 fn compare(case: &Case, requests: &[Request], other: Ask) {
@@ -204,56 +224,69 @@ fn pass(network: &[u8]) -> f64 {
 }
 
 /// Medians of seconds for each request, of each program, and of one pass.
-fn measure(case: &Case, requests: &[Request]) -> ([f64; 3], f64) {
+fn measure(case: &Case, requests: &[Request]) -> ([f64; COUNT], f64) {
     let mut runs = PROGRAMS.map(|_| Run::new(case));
     let mut times = PROGRAMS.map(|_| Vec::new());
     let mut passes = Vec::new();
-    let mut counts = [1; 3];
-    for (i, ask) in PROGRAMS.iter().enumerate() {
-        counts[i] = repeats(batch(case, requests, &mut runs[i], *ask, 1), requests.len());
+    let mut counts = [1; COUNT];
+    for (i, (_, ask)) in PROGRAMS.into_iter().enumerate() {
+        counts[i] = repeats(batch(case, requests, &mut runs[i], ask, 1), requests.len());
     }
     let start = Instant::now();
     while passes.len() < LEAST_BATCHES || passes.len() < MOST_BATCHES && start.elapsed() < LONGEST {
         passes.push(pass(&case.network));
-        for (i, ask) in PROGRAMS.iter().enumerate() {
-            times[i].push(batch(case, requests, &mut runs[i], *ask, counts[i]));
+        for (i, (_, ask)) in PROGRAMS.into_iter().enumerate() {
+            times[i].push(batch(case, requests, &mut runs[i], ask, counts[i]));
             assert!(runs[i].answers == runs[0].answers, "{}: answers of a batch", case.name);
         }
     }
     (times.map(|mut of_program| median(&mut of_program)), median(&mut passes))
 }
 
-/// Whether a find on 256 members is as fast as wanted; nothing is wanted where half of all pairs are friends.
-fn verdict(name: &str, [library, lists, pairs]: [f64; 3], pass: f64) -> &'static str {
-    let reached = match name.split('_').next() {
+/// Whether a request on 256 members is as fast as wanted: a find, but where half of all pairs are friends, and a suggest there.
+fn verdict(name: &str, kind: &str, times: [f64; COUNT], pass: f64) -> &'static str {
+    let [library, lists, pairs, rows, ..] = times;
+    let reached = match (kind, name.split('_').next()) {
         _ if !name.ends_with("_256") => return "",
-        _ if name.contains("nested") => library < 0.05,
-        Some("half") => return "",
-        Some("dense") | Some("full") => lists >= 10.0 * library && library <= 12.0 * pass,
-        _ => lists.min(pairs) >= library,
+        ("suggest", Some("half")) => rows >= library && lists.min(pairs) >= 5.0 * library,
+        ("find", _) if name.contains("nested") => library < 0.05,
+        ("find", Some("dense" | "full")) => lists >= 10.0 * library && library <= 12.0 * pass,
+        ("find", Some("sparse" | "chain")) => lists.min(pairs) >= library,
+        _ => return "",
     };
     if reached { "reached" } else { "NOT REACHED" }
 }
 
+fn print_heads() {
+    let rates: String = PROGRAMS.iter().map(|(name, _)| format!(" {:>9}", format!("{name}/s"))).collect();
+    let ratios: String = PROGRAMS[1..].iter().map(|(name, _)| format!(" {:>8}", format!("x {name}"))).collect();
+    println!("{:<28}{rates}{ratios} {:>10} {:>7}", "graph, scheme, members", "library us", "passes");
+}
+
 fn print_line(case: &Case, kind: &str, requests: &[Request]) {
-    compare(case, requests, PROGRAMS[1]);
-    compare(case, requests, PROGRAMS[2]);
+    for (_, ask) in &PROGRAMS[1..] {
+        compare(case, requests, *ask);
+    }
     let (times, pass) = measure(case, requests);
-    let [library, lists, pairs] = times;
-    println!(
-        "{:<22} {:<7} {:>11.0} {:>11.0} {:>11.0} {:>8.2} {:>8.2} {:>10.2} {:>8.1}  {}",
-        case.name, kind, 1.0 / library, 1.0 / lists, 1.0 / pairs, lists / library, pairs / library, library * 1e6,
-        library / pass, if kind == "find" { verdict(&case.name, times, pass) } else { "" }
+    let library = times[0];
+    let rates: String = times.iter().map(|time| format!(" {:>9.0}", 1.0 / time)).collect();
+    let ratios: String = times[1..].iter().map(|time| format!(" {:>8.2}", time / library)).collect();
+    let line = format!(
+        "{:<20} {kind:<7}{rates}{ratios} {:>10.2} {:>7.1}  {}",
+        case.name, library * 1e6, library / pass, verdict(&case.name, kind, times, pass)
     );
+    println!("{}", line.trim_end());
 }
 
 const EXPLAINED: &str = "\
-Requests a second of the library, of a plain Rust program that lists every member's friends once a request (lists), and of the
-same program where it reads them off the pair bytes (pairs); how many times as fast as each the library is; its time for a
-request in microseconds, and in passes over the network's bytes. Network and output are restored before each run of a file,
+Requests a second of the library, of a plain Rust program that lists every member's friends once a request (lists), of the same
+program where it reads them off the pair bytes (pairs), and where it sets them as bits once a request (rows); how many times as
+fast as each the library is; its time for a request in microseconds, and in passes over the network's bytes. Lists and pairs
+count shared friends member by member, rows by words of 64 members. Network and output are restored before each run of a file,
 within the measured time; caches are not flushed, and freed memory is kept. A suggest is for 20 members, and each member asks in
 turn. Wanted of a find on 256 members: dense and full, 10 times as fast as lists and within 12 passes; sparse and chain, as fast
-as the faster of both; nested, below 50 milliseconds.
+as the faster of lists and pairs; nested, below 50 milliseconds. Wanted of a suggest on 256 members where half of all pairs are
+friends: as fast as rows, and 5 times as fast as the faster of lists and pairs.
 ";
 
 /// Has the allocator keep what is freed, so that the plain program does not pay for new pages at each request.
@@ -267,10 +300,10 @@ fn main() {
     let folder = std::env::args().nth(1).expect("bench FOLDER");
     let names = std::fs::read_to_string(format!("{folder}/names")).expect("no names");
     println!("{EXPLAINED}");
-    println!(
-        "{:<22} {:<7} {:>11} {:>11} {:>11} {:>8} {:>8} {:>10} {:>8}",
-        "graph, scheme, members", "", "library/s", "lists/s", "pairs/s", "x lists", "x pairs", "library us", "passes"
-    );
+    if cfg!(before) {
+        println!("Before is the library of another checkout, in the same run.\n");
+    }
+    print_heads();
     for name in names.lines() {
         let case = read_case(&folder, name);
         print_line(&case, "find", &case.finds);

@@ -1,10 +1,15 @@
 //! The gatekeeper of document 01, and document 02's suggestions, as a plain Rust program, to compare the library's speed and
-//! answers with. It reads the scheme into structs and then follows the documents' sentences. It comes in two kinds: LISTED
-//! lists every member's friends once a request; the other reads a member's friends off the pair bytes where they are asked for.
+//! answers with. It reads the scheme into structs and then follows the documents' sentences. It comes in three forms: LISTS
+//! lists every member's friends once a request; PAIRS reads a member's friends off the pair bytes where they are asked for; ROWS
+//! sets every member's friends as bits once a request, and counts shared friends by words of them.
 
 use std::borrow::Cow;
 use std::cmp::Reverse;
 use std::collections::VecDeque;
+
+pub const LISTS: u8 = 0;
+pub const PAIRS: u8 = 1;
+pub const ROWS: u8 = 2;
 
 const UNDEFINED: u8 = 255;
 const SEARCH: usize = 0;
@@ -140,10 +145,11 @@ fn pair_place(u: usize, v: usize) -> usize {
 }
 
 /// A network that passes 5, read.
-struct Network<'a, const LISTED: bool> {
+struct Network<'a, const FORM: u8> {
     scheme: &'a Scheme,
     bytes: &'a [u8],
     lists: Vec<Vec<usize>>,
+    rows: Vec<Row>,
 }
 
 fn is_valid(scheme: &Scheme, bytes: &[u8]) -> bool {
@@ -171,13 +177,52 @@ fn friend_lists(scheme: &Scheme, bytes: &[u8]) -> Vec<Vec<usize>> {
     lists
 }
 
-impl<'a, const LISTED: bool> Network<'a, LISTED> {
+/// A set of members: bit m of the row for member m.
+type Row = [u64; 4];
+
+/// Every member's friends.
+fn friend_rows(scheme: &Scheme, bytes: &[u8]) -> Vec<Row> {
+    let mut rows = vec![[0; 4]; scheme.members];
+    let mut states = bytes.iter();
+    for j in 0..scheme.members {
+        for (i, &state) in states.by_ref().take(j).enumerate() {
+            let friends = u64::from(scheme.marks[usize::from(state)]);
+            rows[i][j / 64] |= friends << (j % 64);
+            rows[j][i / 64] |= friends << (i % 64);
+        }
+    }
+    rows
+}
+
+fn in_both(left: &Row, right: &Row) -> Row {
+    std::array::from_fn(|i| left[i] & right[i])
+}
+
+fn count(row: &Row) -> usize {
+    row.iter().map(|word| word.count_ones() as usize).sum()
+}
+
+/// The members of a row, in rising order.
+fn members_of(row: &Row) -> Vec<usize> {
+    let mut members = Vec::with_capacity(count(row));
+    for (i, &word) in row.iter().enumerate() {
+        let mut rest = word;
+        while rest != 0 {
+            members.push(64 * i + rest.trailing_zeros() as usize);
+            rest &= rest - 1;
+        }
+    }
+    members
+}
+
+impl<'a, const FORM: u8> Network<'a, FORM> {
     fn read(scheme: &'a Scheme, bytes: &'a [u8]) -> Result<Self, u8> {
         if !is_valid(scheme, bytes) {
             return Err(5);
         }
-        let lists = if LISTED { friend_lists(scheme, bytes) } else { Vec::new() };
-        Ok(Network { scheme, bytes, lists })
+        let lists = if FORM == LISTS { friend_lists(scheme, bytes) } else { Vec::new() };
+        let rows = if FORM == ROWS { friend_rows(scheme, bytes) } else { Vec::new() };
+        Ok(Network { scheme, bytes, lists, rows })
     }
 
     fn state(&self, u: usize, v: usize) -> u8 {
@@ -185,14 +230,17 @@ impl<'a, const LISTED: bool> Network<'a, LISTED> {
     }
 
     fn are_friends(&self, u: usize, v: usize) -> bool {
+        if FORM == ROWS {
+            return self.rows[u][v / 64] >> (v % 64) & 1 == 1;
+        }
         u != v && self.scheme.marks[usize::from(self.state(u, v))]
     }
 
     fn friends(&self, u: usize) -> Cow<'_, [usize]> {
-        if LISTED {
-            Cow::Borrowed(&self.lists[u])
-        } else {
-            Cow::Owned((0..self.scheme.members).filter(|&v| self.are_friends(u, v)).collect())
+        match FORM {
+            LISTS => Cow::Borrowed(&self.lists[u]),
+            ROWS => Cow::Owned(members_of(&self.rows[u])),
+            _ => Cow::Owned((0..self.scheme.members).filter(|&v| self.are_friends(u, v)).collect()),
         }
     }
 
@@ -225,6 +273,23 @@ impl<'a, const LISTED: bool> Network<'a, LISTED> {
         self.friends(u).iter().copied().filter(|&m| self.are_friends(m, v)).collect()
     }
 
+    fn shared_row(&self, u: usize, v: usize) -> Row {
+        in_both(&self.rows[u], &self.rows[v])
+    }
+
+    fn shared_count(&self, u: usize, v: usize) -> usize {
+        if FORM == ROWS { count(&self.shared_row(u, v)) } else { self.shared_friends(u, v).len() }
+    }
+
+    /// Whether u and v share so many friends who are all friends of each other.
+    fn shared_clique(&self, u: usize, v: usize, size: usize) -> bool {
+        if FORM == ROWS {
+            self.clique_in_row(self.shared_row(u, v), size)
+        } else {
+            self.clique_among(&self.shared_friends(u, v), size)
+        }
+    }
+
     /// Whether so many of the candidates are all friends of each other.
     fn clique_among(&self, candidates: &[usize], size: usize) -> bool {
         if size <= 1 {
@@ -233,6 +298,17 @@ impl<'a, const LISTED: bool> Network<'a, LISTED> {
         candidates.iter().enumerate().any(|(i, &m)| {
             let rest: Vec<usize> = candidates[i + 1..].iter().copied().filter(|&x| self.are_friends(m, x)).collect();
             self.clique_among(&rest, size - 1)
+        })
+    }
+
+    /// The same, of candidates in a row.
+    fn clique_in_row(&self, mut candidates: Row, size: usize) -> bool {
+        if size <= 1 {
+            return count(&candidates) >= size;
+        }
+        members_of(&candidates).iter().any(|&m| {
+            candidates[m / 64] &= !(1 << (m % 64));
+            self.clique_in_row(in_both(&candidates, &self.rows[m]), size - 1)
         })
     }
 
@@ -246,10 +322,8 @@ impl<'a, const LISTED: bool> Network<'a, LISTED> {
             Policy::Everyone => true,
             Policy::Owner => u == v,
             Policy::Within(k) => self.within(u, v, k),
-            Policy::Known(k) => u == v || self.are_friends(u, v) || self.shared_friends(u, v).len() >= k,
-            Policy::Clique(k) => {
-                u == v || self.are_friends(u, v) && self.clique_among(&self.shared_friends(u, v), k - 2)
-            }
+            Policy::Known(k) => u == v || self.are_friends(u, v) || self.shared_count(u, v) >= k,
+            Policy::Clique(k) => u == v || self.are_friends(u, v) && self.shared_clique(u, v, k - 2),
             Policy::State { set, side } => {
                 set >> self.state(u, v) & 1 == 1 && (side == 0 || side == 1 && u < v || side == 2 && u > v)
             }
@@ -291,6 +365,9 @@ impl<'a, const LISTED: bool> Network<'a, LISTED> {
     }
 
     fn walk(&self, v: usize, u: usize, seen: &mut [bool], waiting: &mut VecDeque<usize>) -> bool {
+        if FORM == ROWS {
+            return self.walk_rows(v, u, seen, waiting);
+        }
         while let Some(m) = waiting.pop_front() {
             if !self.admits(m, TRAVERSAL, v) {
                 continue;
@@ -308,6 +385,27 @@ impl<'a, const LISTED: bool> Network<'a, LISTED> {
         false
     }
 
+    /// The same by rows: the friends of a member that are not seen, at once.
+    fn walk_rows(&self, v: usize, u: usize, seen: &mut [bool], waiting: &mut VecDeque<usize>) -> bool {
+        let mut unseen: Row = [0; 4];
+        (0..self.scheme.members).for_each(|m| unseen[m / 64] |= u64::from(!seen[m]) << (m % 64));
+        while let Some(m) = waiting.pop_front() {
+            if !self.admits(m, TRAVERSAL, v) {
+                continue;
+            }
+            if u != NOBODY && self.are_friends(m, u) {
+                return true;
+            }
+            let new = in_both(&self.rows[m], &unseen);
+            for friend in members_of(&new) {
+                seen[friend] = true;
+                waiting.push_back(friend);
+            }
+            unseen = std::array::from_fn(|i| unseen[i] & !new[i]);
+        }
+        false
+    }
+
     /// Whether v finds each member: one walk from all who may come first, until no member is left to expand.
     fn all_found(&self, v: usize) -> Vec<bool> {
         let first = |m| m == v || self.are_friends(m, v) || self.admits(m, SEARCH, v);
@@ -317,8 +415,11 @@ impl<'a, const LISTED: bool> Network<'a, LISTED> {
         seen
     }
 
-    /// How many friends each of the members shares with v, counted member by member, and that member.
+    /// How many friends each of the members shares with v, and that member. Without rows they are counted member by member.
     fn shared_counts(&self, v: usize, members: &[usize]) -> Vec<(usize, usize)> {
+        if FORM == ROWS {
+            return members.iter().map(|&u| (self.shared_count(u, v), u)).collect();
+        }
         let friends = self.friends(v);
         let shared = |u| friends.iter().filter(|&&m| self.are_friends(m, u)).count();
         members.iter().map(|&u| (shared(u), u)).collect()
@@ -355,9 +456,9 @@ fn answer(result: Result<(), u8>) -> u8 {
 }
 
 /// Where an event writes, and the next state.
-fn judge_event<const LISTED: bool>(scheme: &[u8], network: &[u8], v: usize, u: usize, a: usize) -> Result<(usize, u8), u8> {
+fn judge_event<const FORM: u8>(scheme: &[u8], network: &[u8], v: usize, u: usize, a: usize) -> Result<(usize, u8), u8> {
     let scheme = Scheme::read(scheme)?;
-    let network = Network::<LISTED>::read(&scheme, network)?;
+    let network = Network::<FORM>::read(&scheme, network)?;
     network.both_members(v, u)?;
     if a >= scheme.primitives {
         return Err(7);
@@ -375,8 +476,8 @@ fn judge_event<const LISTED: bool>(scheme: &[u8], network: &[u8], v: usize, u: u
     Ok((pair_place(v, u), next))
 }
 
-pub fn event<const LISTED: bool>(scheme: &[u8], network: &mut [u8], v: usize, u: usize, a: usize) -> u8 {
-    match judge_event::<LISTED>(scheme, network, v, u, a) {
+pub fn event<const FORM: u8>(scheme: &[u8], network: &mut [u8], v: usize, u: usize, a: usize) -> u8 {
+    match judge_event::<FORM>(scheme, network, v, u, a) {
         Ok((place, next)) => {
             network[place] = next;
             0
@@ -413,20 +514,20 @@ pub fn set(scheme: &[u8], network: &mut [u8], u: usize, r: usize, p: usize) -> u
     }
 }
 
-fn judge_find<const LISTED: bool>(scheme: &[u8], network: &[u8], v: usize, u: usize) -> Result<(), u8> {
+fn judge_find<const FORM: u8>(scheme: &[u8], network: &[u8], v: usize, u: usize) -> Result<(), u8> {
     let scheme = Scheme::read(scheme)?;
-    let network = Network::<LISTED>::read(&scheme, network)?;
+    let network = Network::<FORM>::read(&scheme, network)?;
     network.both_members(v, u)?;
     network.found(v, u)
 }
 
-pub fn find<const LISTED: bool>(scheme: &[u8], network: &[u8], v: usize, u: usize) -> u8 {
-    answer(judge_find::<LISTED>(scheme, network, v, u))
+pub fn find<const FORM: u8>(scheme: &[u8], network: &[u8], v: usize, u: usize) -> u8 {
+    answer(judge_find::<FORM>(scheme, network, v, u))
 }
 
-pub fn list<const LISTED: bool>(scheme: &[u8], network: &[u8], v: usize, u: usize, output: &mut [u16]) -> Result<usize, u8> {
+pub fn list<const FORM: u8>(scheme: &[u8], network: &[u8], v: usize, u: usize, output: &mut [u16]) -> Result<usize, u8> {
     let scheme = Scheme::read(scheme)?;
-    let network = Network::<LISTED>::read(&scheme, network)?;
+    let network = Network::<FORM>::read(&scheme, network)?;
     network.both_members(v, u)?;
     if output.len() < scheme.members {
         return Err(13);
@@ -440,9 +541,9 @@ pub fn list<const LISTED: bool>(scheme: &[u8], network: &[u8], v: usize, u: usiz
     Ok(friends.len())
 }
 
-fn judge_view<const LISTED: bool>(scheme: &[u8], network: &[u8], v: usize, u: usize, o: usize) -> Result<(), u8> {
+fn judge_view<const FORM: u8>(scheme: &[u8], network: &[u8], v: usize, u: usize, o: usize) -> Result<(), u8> {
     let scheme = Scheme::read(scheme)?;
-    let network = Network::<LISTED>::read(&scheme, network)?;
+    let network = Network::<FORM>::read(&scheme, network)?;
     network.both_members(v, u)?;
     if o >= scheme.items {
         return Err(7);
@@ -451,13 +552,13 @@ fn judge_view<const LISTED: bool>(scheme: &[u8], network: &[u8], v: usize, u: us
     network.allowed(u, 2 + scheme.primitives + o, v)
 }
 
-pub fn view<const LISTED: bool>(scheme: &[u8], network: &[u8], v: usize, u: usize, o: usize) -> u8 {
-    answer(judge_view::<LISTED>(scheme, network, v, u, o))
+pub fn view<const FORM: u8>(scheme: &[u8], network: &[u8], v: usize, u: usize, o: usize) -> u8 {
+    answer(judge_view::<FORM>(scheme, network, v, u, o))
 }
 
-pub fn suggest<const LISTED: bool>(scheme: &[u8], network: &[u8], v: usize, c: usize, output: &mut [u16]) -> Result<usize, u8> {
+pub fn suggest<const FORM: u8>(scheme: &[u8], network: &[u8], v: usize, c: usize, output: &mut [u16]) -> Result<usize, u8> {
     let scheme = Scheme::read(scheme)?;
-    let network = Network::<LISTED>::read(&scheme, network)?;
+    let network = Network::<FORM>::read(&scheme, network)?;
     if v >= scheme.members {
         return Err(6);
     }

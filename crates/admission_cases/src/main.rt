@@ -151,16 +151,10 @@ fn no_distances() -> [u16; 256]
     [0; 256]
 }
 
-fn no_rows() -> [u64; 1024]
-    ensures { λ r. ⌜ 1024 ≡ length r ⌝ }
-{
-    [0; 1024]
-}
-
 fn main() {
     let mut scheme = io::large_buffer();
     let mut network = io::large_buffer();
     let mut distances = no_distances();
-    let mut rows = no_rows();
+    let mut rows = row_table::no_rows();
     run_cases(&mut scheme, &mut network, &mut distances, &mut rows);
 }

@@ -3,7 +3,6 @@ use tables::Summary;
 ghost use mathlib.Core.Path.{_≡_};
 ghost use mathlib.Core.Logic.{_⊎_};
 ghost use Prim.Native.Nat.{_+_, _<_};
-ghost use lib.ListN.{length};
 ghost use Rattle.model.specs.Answers.{Answers};
 ghost use Rattle.model.specs.Decides.{Decides};
 ghost use Rattle.model.specs.Finding.{Finds};
@@ -11,12 +10,6 @@ ghost use Rattle.model.specs.Graph.{Friends};
 ghost use Rattle.network.specs.Ready.{Ready, worldOf, graphOf};
 ghost use Rattle.finding.specs.Everyone.{Everyone};
 ghost use Rattle.checks.specs.Judged.{judgeNeeds};
-
-fn no_rows() -> [u64; 1024]
-    ensures { λ r. ⌜ length r ≡ 1024 ⌝ }
-{
-    [0u64; 1024]
-}
 
 // Whether v and u are one or friends: then v finds u, and nothing has to be prepared.
 fn near(scheme: &[u8], c: Summary, network: &[u8], v: usize, u: usize) -> bool
@@ -38,7 +31,7 @@ pub fn found(scheme: &[u8], c: Summary, network: &[u8], v: usize, u: usize) -> b
         return true;
     }
     let mut distances = distance::no_distances();
-    let mut rows = no_rows();
+    let mut rows = row_table::no_rows();
     prepared::prepare(scheme, c, network, v, &mut distances, &mut rows);
     finding::finds(scheme, c, network, &distances, &rows, v, u)
 }
@@ -49,7 +42,7 @@ pub fn everyone(scheme: &[u8], c: Summary, network: &[u8], v: usize) -> [u16; 25
     ensures { λ r. ⌜ Everyone (worldOf (now (scheme .entry)) (now (network .entry))) v r ⌝ }
 {
     let mut distances = distance::no_distances();
-    let mut rows = no_rows();
+    let mut rows = row_table::no_rows();
     prepared::prepare(scheme, c, network, v, &mut distances, &mut rows);
     finding::everyone(scheme, c, network, &distances, &rows, v)
 }
@@ -91,7 +84,7 @@ fn judge_apart(
     ensures { λ k. ⌜ Answers (judgeNeeds (worldOf (now (scheme .entry)) (now (network .entry))) v u r defined) k ⌝ }
 {
     let mut distances = distance::no_distances();
-    let mut rows = no_rows();
+    let mut rows = row_table::no_rows();
     prepared::prepare(scheme, c, network, v, &mut distances, &mut rows);
     if !finding::finds(scheme, c, network, &distances, &rows, v, u) {
         return 9;

@@ -1,7 +1,7 @@
 -- The loops that mark friends, turn by turn.
 use Prim.Native.Nat.{ℕ, _+_, _<_, _≤_}
-use mathlib.Core.Path.{_≡_, refl, sym, _∙_}
-use mathlib.Core.Bool.{Bool, true, false, true≢false}
+use mathlib.Core.Path.{_≡_, refl, sym, ap, _∙_}
+use mathlib.Core.Bool.{Bool, true, false, cond, true≢false}
 use mathlib.Core.List.{List}
 use mathlib.Core.Logic.{_⊎_, inl, inr, ⊎-elim}
 use native.Mathlib.Decide.{decLt, ℕ-discrete}
@@ -9,7 +9,7 @@ use native.Mathlib.Nat.{eq-or-lt-of-le, le-of-suc-le-suc}
 use native.Mathlib.Numerals.{add-one}
 use native.Mathlib.Omega.{arith}
 use lib.ListN.{length, getD, set, length-set}
-use lib.Seq.{getD-set-same, getD-set-other}
+use lib.Seq.{getD-set-same, getD-set-other, set-getD}
 use Rattle.model.specs.Graph.{Graph, Friends}
 use Rattle.next_friend.specs.Spread.{Marked, Spread, Run}
 
@@ -78,6 +78,15 @@ module _ {g : Graph} {mark : ℕ} {old new : List ℕ} {m from i : ℕ} (x : Spr
 
       unmarked : getD old i 0 ≡ 0
       unmarked = ⊎-elim (λ w. omega arith) (λ w. w .0) (x .each i li)
+
+  -- i has no mark: it gets one as a friend, and none otherwise
+  pub spread-told : (r : Bool) (a : ℕ) → from ≤ i → i < g .members → m < g .members → g .members ≤ 256 → 0 < mark → getD new i 0 ≡ 0 → r ≡ g .friends i m
+      → a ≡ cond r mark 0
+      → Spread g (Run m from (i + 1)) mark old (set new i a)
+  spread-told true a onward li lm small pos z e t = rw t (spread-mark onward li lm small pos z e refl)
+  spread-told false a onward li lm small pos z e t =
+      let same : set new i 0 ≡ new = ap (set new i) (sym z) ∙ set-getD new i 0 in
+      rw (t, same) (spread-stranger e refl)
 
 -- first some pairs, then others
 pub spread-then : {g : Graph} {T U : ℕ → ℕ → Type 0} {mark : ℕ} {old new far : List ℕ} → Spread g T mark old new → Spread g U mark new far

@@ -1,12 +1,24 @@
 // Marks for the friends of a member, by the pair bytes in their order.
 use tables::Summary;
 ghost use mathlib.Core.Path.{_≡_};
+ghost use mathlib.Core.Bool.{cond};
 ghost use Prim.Native.Nat.{_<_, _≤_};
 ghost use lib.ListN.{length};
 ghost use Rattle.network.specs.Ready.{Ready, graphOf};
 ghost use Rattle.next_friend.specs.Spread.{Marked, Spread, Run};
 
-// Marks the friends of m below it that have no mark yet, from a member on.
+// The mark for a friend; none for another.
+fn for_friend(friend: bool, mark: u16) -> u16
+    ensures { λ r. ⌜ r ≡ cond friend mark 0 ⌝ }
+{
+    if friend {
+        return mark;
+    }
+    0
+}
+
+// Marks the friends of m below it that have no mark yet, from a member on. Whether one has a mark can be foreseen, since most soon
+// have; whether one is a friend often cannot, and is no branch.
 fn below(
     scheme: &[u8],
     c: Summary,
@@ -22,10 +34,8 @@ fn below(
     let at = network::read::pairs(m);
     let mut k = from;
     while k < m {
-        if network::read::marked(c.marks, network[at + k]) {
-            if marks[k] == 0 {
-                marks[k] = mark;
-            }
+        if marks[k] == 0 {
+            marks[k] = for_friend(network::read::marked(c.marks, network[at + k]), mark);
         }
         k += 1;
     }
@@ -47,10 +57,8 @@ fn above(
     let mut at = network::read::pairs(from) + m;
     let mut k = from;
     while k < c.members {
-        if network::read::marked(c.marks, network[at]) {
-            if marks[k] == 0 {
-                marks[k] = mark;
-            }
+        if marks[k] == 0 {
+            marks[k] = for_friend(network::read::marked(c.marks, network[at]), mark);
         }
         at += k;
         k += 1;

@@ -3,6 +3,8 @@ use Prim.Native.Nat.{ℕ, zero, suc, _+_, _-_, _<_, _≤_, zero-le}
 use mathlib.Core.Path.{_≡_, refl, sym, _∙_, ap}
 use mathlib.Core.Bool.{Bool, true, false, cond, or-false}
 use mathlib.Core.List.{List, [], _∷_, _++_, append-assoc}
+use mathlib.Core.Logic.{inl, inr}
+use native.Mathlib.Decide.{decLt, ℕ-discrete}
 use native.Mathlib.Numerals.{add-one}
 use native.Mathlib.Omega.{arith}
 use native.Mathlib.Nat.{add-zero}
@@ -10,11 +12,12 @@ use borrow.Author.Tests.{le-ltb, eq-eqb, ne-eqb}
 use lib.Dec.{ltb}
 use lib.ListN.{length, getD, take, drop, set, length-set, length-append, drop-of-length-le}
 use lib.Seq.{take-suc, drop-cons, take-suc-set, drop-set-lt, drop-drop, getD-drop, getD-take, length-take-le, take-all, take-at}
-use Rattle.model.specs.Page.{All, Ordered}
+use Rattle.model.specs.Page.{All, Ordered, FirstOf}
 use Rattle.model.specs.Suggestions.{Earlier}
-use Rattle.model.proofs.Paging.{insert, enter, insert-first, all-map, page-next, page-stays, page-none}
+use Rattle.model.proofs.Deciding.{is-so}
+use Rattle.model.proofs.Paging.{Below, insert, enter, insert-first, all-map, page-next, page-stays, page-none}
 use Rattle.model.proofs.Suggesting.{earlier, earlier-strict, is-earlier}
-use Rattle.page.specs.Pages.{rankOf, Enterable, Entered, Filled}
+use Rattle.page.specs.Pages.{rankOf, Enterable, Entered, Readable, LastRank, Filled}
 
 -- with equal ranks the number decides, else the rank
 pub by-number : (f : ℕ → ℕ) (x y : ℕ) → f x ≡ f y → ltb x y ≡ earlier f x y
@@ -174,6 +177,34 @@ module _ {ranks old : List ℕ} {wanted used m : ℕ} (e : Enterable ranks old w
       behind = behind-all;
     }
 
+-- whoever the one in the place i stands before goes in behind it
+past-place : (f : ℕ → ℕ) (k i : ℕ) (l : List ℕ) → Ordered (Earlier f) l → i < length l → Earlier f (getD l i 0) k
+    → take (suc i) (insert (earlier f) k l) ≡ take (suc i) l
+past-place f k i [] o b h = absurd (omega arith)
+past-place f k zero (x ∷ l) o b h = rw (insert-cons, is-so (is-earlier f x k) h)
+past-place f k (suc i) (x ∷ l) (g, o) b h =
+    let t = earlier-strict f .transitive x (getD l i 0) k (all-get (Earlier f x) l i g (omega arith)) h in
+    rw (insert-cons, is-so (is-earlier f x k) t, past-place f k i l o (omega arith) h)
+
+-- whoever the last on a full page stands before does not enter
+entered-none : (f : ℕ → ℕ) (k i c : ℕ) (l : List ℕ) → Ordered (Earlier f) l → suc i ≡ c → length l ≡ c → Earlier f (getD l i 0) k
+    → enter (earlier f) c k l ≡ l
+unfolding enter
+entered-none f k i c l o e b h = (rw e at (past-place f k i l o (omega arith) h)) ∙ take-all c l (omega arith)
+
+-- the lower number stands before whoever's rank is no greater
+no-later : (f : ℕ → ℕ) (x y : ℕ) → f y ≤ f x → x < y → Earlier f x y
+no-later f x y h l = go (decLt (f y) (f x))
+  where
+    go : Dec (f y < f x) → Earlier f x y
+    go (yes s) = inl s
+    go (no s) = inr (omega arith, l)
+
+pub last-known : {ranks page : List ℕ} {used : ℕ} → Readable ranks page used → 0 < used → getD page (used - 1) 0 < length ranks
+last-known {ranks} {page} {used} r h =
+    rw (← getD-take used page (used - 1) 0 (omega arith))
+    (all-get (λ x. x < length ranks) (take used page) (used - 1) (r .known) (omega (arith, length-take-le used page (r .fits))))
+
 -- the loop over the members, turn by turn
 pub filled-none : {ranks page : List ℕ} {wanted : ℕ} → Filled ranks page wanted 0 0 page
 filled-none {ranks} {page} {wanted} = record {
@@ -183,13 +214,22 @@ filled-none {ranks} {page} {wanted} = record {
   behind = refl;
 }
 
+pub last-none : {ranks page : List ℕ} {wanted : ℕ} → LastRank ranks page wanted 0 0
+last-none = record { full = λ h e. absurd (omega arith); free = λ n. refl }
+
 module _ {ranks old : List ℕ} {wanted n used : ℕ} {page : List ℕ} (f : Filled ranks old wanted n used page) where
+  pub filled-readable : wanted ≤ length old → n ≤ length ranks → Readable ranks page used
+  filled-readable l h = record {
+    fits = omega (arith, f .long, f .fits);
+    known = all-map (λ x (b, g). omega arith) (take used page) (f .front .suit);
+  }
+
   pub filled-enterable : wanted ≤ length old → n < length ranks → Enterable ranks page wanted used n
   filled-enterable l h = record {
     free = f .fits;
     fits = omega (arith, f .long);
     ranked = h;
-    known = all-map (λ x (b, g). omega arith) (take used page) (f .front .suit);
+    known = filled-readable l (omega arith) .known;
     ordered = f .front .ordered;
   }
 
@@ -204,10 +244,34 @@ module _ {ranks old : List ℕ} {wanted n used : ℕ} {page : List ℕ} (f : Fil
       split : r ≡ used + (r - used)
       split = omega (arith, e .grown)
 
-  pub filled-stays : getD ranks n 0 ≤ 0 → Filled ranks old wanted (n + 1) used page
-  filled-stays h = record {
+  -- whose rank does not exceed that of the last on a full page, or 0 while a place is free, does not enter
+  pub filled-stays : {least : ℕ} → wanted ≤ length old → LastRank ranks page wanted used least → getD ranks n 0 ≤ least
+      → Filled ranks old wanted (n + 1) used page
+  filled-stays {least} l t h = record {
     long = f .long;
     fits = f .fits;
-    front = rw (add-one n) (page-stays (earlier-strict (rankOf ranks)) (is-earlier (rankOf ranks)) n wanted (take used page) (λ i. omega arith) (f .front));
+    front = rw (add-one n) (stays (decLt 0 (getD ranks n 0)) (decLt 0 used) (ℕ-discrete used wanted));
     behind = f .behind;
   }
+    where
+      After : Type 0
+      After = FirstOf (Earlier (rankOf ranks)) (Below (λ m. 1 ≤ rankOf ranks m) (suc n)) wanted (take used page)
+
+      none : getD ranks n 0 ≤ 0 → After
+      none z = page-stays (earlier-strict (rankOf ranks)) (is-earlier (rankOf ranks)) n wanted (take used page) (λ i. omega arith) (f .front)
+
+      full : 0 < getD ranks n 0 → 0 < used → used ≡ wanted → After
+      full g p e =
+          let s : length (take used page) ≡ used = length-take-le used page (omega (arith, f .long, f .fits)) in
+          let x = getD (take used page) (used - 1) 0 in
+          let d : x ≡ getD page (used - 1) 0 = getD-take used page (used - 1) 0 (omega arith) in
+          let low : x < n = all-get (Below (λ m. 1 ≤ rankOf ranks m) n) (take used page) (used - 1) (f .front .suit) (omega arith) .0 in
+          let r : getD ranks n 0 ≤ rankOf ranks x = rw d (omega (arith, t .full p e)) in
+          rw (entered-none (rankOf ranks) n (used - 1) wanted (take used page) (f .front .ordered) (omega arith) (omega arith) (no-later (rankOf ranks) x n r low))
+          at (page-next (earlier-strict (rankOf ranks)) (is-earlier (rankOf ranks)) n wanted (take used page) g (f .front))
+
+      stays : Dec (0 < getD ranks n 0) → Dec (0 < used) → Dec (used ≡ wanted) → After
+      stays (no g) d e = none (omega arith)
+      stays (yes g) (yes p) (yes e) = full g p e
+      stays (yes g) (yes p) (no e) = none (omega (arith, t .free (λ a b. e b)))
+      stays (yes g) (no p) e = none (omega (arith, t .free (λ a b. p a)))

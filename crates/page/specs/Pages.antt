@@ -1,5 +1,5 @@
 -- A page in lent places, by ranks in a lent array.
-use Prim.Native.Nat.{ℕ, _<_, _≤_}
+use Prim.Native.Nat.{ℕ, _-_, _<_, _≤_}
 use mathlib.Core.Path.{_≡_}
 use mathlib.Core.List.{List}
 use lib.ListN.{length, getD, take, drop}
@@ -26,6 +26,16 @@ pub record Entered (ranks page : List ℕ) (wanted used m r : ℕ) (after : List
   pub fits : r ≤ wanted
   pub front : take r after ≡ enter (earlier (rankOf ranks)) wanted m (take used page)
   pub behind : drop r after ≡ drop r page
+
+-- the first used places can be read, and all there have ranks
+pub record Readable (ranks page : List ℕ) (used : ℕ) : Type 0 where
+  pub fits : used ≤ length page
+  pub known : All (λ x. x < length ranks) (take used page)
+
+-- what the rank of the next must exceed: the rank of the last on a full page, else 0
+pub record LastRank (ranks page : List ℕ) (wanted used r : ℕ) : Type 0 where
+  pub full : 0 < used → used ≡ wanted → r ≡ rankOf ranks (getD page (used - 1) 0)
+  pub free : (0 < used → used ≡ wanted → ⊥) → r ≡ 0
 
 -- the page of those below n with a rank above 0 stands in the first r places; those behind stay
 pub record Filled (ranks page : List ℕ) (wanted n r : ℕ) (after : List ℕ) : Type 0 where

@@ -83,7 +83,7 @@ pub fn prepare(
     }
     let some = kinds_of(scheme, c, 0, c.policies);
     if some.clique {
-        rows::fill_rows(scheme, c, network, rows);
+        row_table::fill_rows(scheme, c, network, rows);
         return;
     }
     if some.known {

@@ -99,12 +99,6 @@ fn five_at_once(scheme: &[u8], c: Summary, network: &[u8], u: usize, v: usize) -
     sets::not_empty(sets::meet(rows::friend_row(scheme, c, network, b), with_a))
 }
 
-fn no_rows() -> [u64; 1024]
-    ensures { λ r. ⌜ length r ≡ 1024 ⌝ }
-{
-    [0u64; 1024]
-}
-
 // The size of the largest clique with two friends: five at once, or as the rows of all members tell.
 fn clique_of_friends(scheme: &[u8], c: Summary, network: &[u8], u: usize, v: usize) -> usize
     requires { ⌜ Ready (now scheme) c (now network) × (u < c .members) × (v < c .members) × Friends (graphOf (now scheme) (now network)) u v ⌝ }
@@ -113,8 +107,8 @@ fn clique_of_friends(scheme: &[u8], c: Summary, network: &[u8], u: usize, v: usi
     if five_at_once(scheme, c, network, u, v) {
         return 5;
     }
-    let mut rows = no_rows();
-    rows::fill_rows(scheme, c, network, &mut rows);
+    let mut rows = row_table::no_rows();
+    row_table::fill_rows(scheme, c, network, &mut rows);
     clique::largest(&rows, u, v)
 }
 

@@ -11,7 +11,7 @@ use native.Mathlib.Decide.{decLt}
 use borrow.Author.Count.{below-more}
 use lib.Bits.{bitOr}
 use lib.ListN.{getD}
-use Rattle.model.specs.Bytes.{bit}
+use Rattle.model.specs.Bytes.{digit, bit}
 use Rattle.model.specs.Graph.{Graph}
 use Rattle.model.proofs.Bits.{digit-of-zero, bit-no}
 use Rattle.model.proofs.Places.{pairs-suc}
@@ -20,6 +20,8 @@ use Rattle.model.specs.Network.{pairs}
 use Rattle.model.specs.SchemeBytes.{n as members}
 use Rattle.tables.specs.declared.Summary.{Summary}
 use Rattle.network.specs.Ready.{Ready, graphOf}
+use Rattle.friend_flags.specs.Flags.{Flagged, Packed}
+use Rattle.friend_flags.proofs.Friendships.{flag-bit, flag-small, own-flagged}
 use Rattle.sets.specs.Rows.{rowBit, FriendRow}
 use Rattle.rows.specs.Words.{FirstBits}
 use Rattle.network.proofs.Reading.{friends-byte, friends-outside}
@@ -81,6 +83,31 @@ first-all b net u from n word l out f = record { bits = λ k h. go k h (decLt k 
     go k h (no a) =
         let i : n ≤ k = omega arith in
         f .none-above k i ∙ sym (friends-outside b net u (from + k) (out k i h))
+
+-- the flags of members below u as bits
+module _ {b net : List ℕ} {c : Summary} (ready : Ready b c net) {u at : ℕ} (from end : ℕ) (member : u < c .members) (below : from + end ≤ u) (e : at ≡ pairs u + from)
+    {flags flags' : List ℕ}
+    (none : (k : ℕ) → getD flags k 0 ≡ 0)
+    (f : Flagged net (c .marks) at end flags flags') where
+  pub flags-small : (k : ℕ) → getD flags' k 0 ≤ 1
+  flags-small k = go (decLt k end)
+    where
+      go : Dec (k < end) → getD flags' k 0 ≤ 1
+      go (yes l) = rw (own-flagged ready from end member below e f k l) (flag-small (graphOf b net .friends u (from + k)))
+      go (no l) = omega (arith, f .kept k (omega arith), none k)
+
+  pub first-flags : (word : ℕ) → end ≤ 64 → Packed flags' 0 64 word → FirstBits (graphOf b net) u from end word
+  first-flags word l p = record { bits = bits; none-above = λ k h. above k h (decLt k 64) }
+    where
+      digits : (k : ℕ) → k < 64 → digit word k ≡ getD flags' k 0
+      digits k h = let z : 0 + k ≡ k = omega arith in p .digits k h ∙ ap (λ (x : ℕ). getD flags' x 0) z
+
+      bits : (k : ℕ) → k < end → bit word k ≡ graphOf b net .friends u (from + k)
+      bits k h = flag-bit word k (graphOf b net .friends u (from + k)) (digits k (omega arith) ∙ own-flagged ready from end member below e f k h)
+
+      above : (k : ℕ) → end ≤ k → Dec (k < 64) → bit word k ≡ false
+      above k h (yes s) = flag-bit word k false (digits k s ∙ f .kept k h ∙ none k)
+      above k h (no s) = p .none-above k (omega arith)
 
 -- ---- a row, word by word
 

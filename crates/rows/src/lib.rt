@@ -1,28 +1,28 @@
-// Friend rows: one member's, and those of all.
+// Friend rows.
 use tables::Summary;
 ghost use mathlib.Core.Path.{_≡_};
-ghost use Prim.Native.Nat.{_+_, _<_, _≤_};
-ghost use lib.ListN.{length};
+ghost use Prim.Native.Nat.{ℕ, _+_, _<_, _≤_};
+ghost use lib.ListN.{length, getD};
 ghost use Rattle.network.specs.Ready.{Ready, graphOf};
 ghost use Rattle.sets.specs.Rows.{FriendRow};
-ghost use Rattle.rows.specs.Filled.{RowsFilled};
 ghost use Rattle.rows.specs.Words.{FirstBits};
+
+// No flag in any of 64 places.
+fn no_flags() -> [u8; 64]
+    ensures { λ r. ⌜ (length r ≡ 64) × ((k : ℕ) → getD r k 0 ≡ 0) ⌝ }
+{
+    [0u8; 64]
+}
 
 // The first bits of u's row from a member on, all of members below u: their states stand side by side.
 fn lesser(scheme: &[u8], c: Summary, network: &[u8], u: usize, from: usize, end: usize) -> u64
     requires { ⌜ Ready (now scheme) c (now network) × (u < c .members) × (from + end ≤ u) × (end ≤ 64) ⌝ }
     ensures { λ r. ⌜ FirstBits (graphOf (now (scheme .entry)) (now (network .entry))) u from end r ⌝ }
 {
+    let mut flags = no_flags();
     let at = network::read::pairs(u) + from;
-    let mut bits: u64 = 0;
-    let mut m: usize = 0;
-    while m < end {
-        if network::read::marked(c.marks, network[at + m]) {
-            bits = bits | (1u64 << m);
-        }
-        m += 1;
-    }
-    bits
+    friend_flags::mark(c.marks, network, at, end, &mut flags);
+    friend_flags::word(&flags, 0)
 }
 
 // The 64 bits of u's row from a member on, the first of them given, the others all of members above u: the state with the
@@ -80,16 +80,4 @@ pub fn friend_row(scheme: &[u8], c: Summary, network: &[u8], u: usize) -> [u64; 
         word(scheme, c, network, u, 128),
         word(scheme, c, network, u, 192),
     ]
-}
-
-// Writes the friend rows of all members, four words each.
-pub fn fill_rows(scheme: &[u8], c: Summary, network: &[u8], rows: &mut [u64])
-    requires { ⌜ Ready (now scheme) c (now network) × (length (now rows) ≡ 1024) ⌝ }
-    ensures { λ r. ⌜ RowsFilled (graphOf (now (scheme .entry)) (now (network .entry))) (now (rows .entry)) (now (rows .exit)) ⌝ }
-{
-    let mut m: usize = 0;
-    while m < c.members {
-        sets::put_row(rows, m, friend_row(scheme, c, network, m));
-        m += 1;
-    }
 }

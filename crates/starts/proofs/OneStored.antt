@@ -1,17 +1,11 @@
--- Places of an array: zeros, and what a store changes.
-use Prim.Native.Nat.{ℕ, zero, suc, _<_}
-use mathlib.Core.Path.{_≡_, refl}
+-- Places of an array: what a store changes.
+use Prim.Native.Nat.{ℕ, _<_}
+use mathlib.Core.Path.{_≡_}
 use mathlib.Core.List.{List}
 use mathlib.Core.Logic.{_⊎_}
 use native.Mathlib.Omega.{arith}
-use lib.ListN.{length, getD, set, replicate}
+use lib.ListN.{length, getD, set}
 use Rattle.next_friend.proofs.Spreading.{after}
-
--- there is nothing but zeros, also behind the end
-pub all-zero : (n k : ℕ) → _≡_ {A = ℕ} (getD (replicate n 0) k 0) 0
-all-zero zero k = refl
-all-zero (suc n) zero = refl
-all-zero (suc n) (suc k) = all-zero n k
 
 -- a store changes one place of the 256: at k stands the a that was stored at i, or what stood there
 abbrev pub Stored : List ℕ → ℕ → ℕ → ℕ → Type 0

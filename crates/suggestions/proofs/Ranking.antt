@@ -1,61 +1,54 @@
 -- The ranks of members, turn by turn.
-use Prim.Native.Nat.{ℕ, _+_, _<_, _≤_}
-use mathlib.Core.Path.{_≡_, subst, _∙_}
+use Prim.Native.Nat.{ℕ, _+_, _<_}
+use mathlib.Core.Path.{_≡_, sym, _∙_}
+use mathlib.Core.Bool.{Bool, true, false, not, false≢true}
 use mathlib.Core.List.{List}
 use mathlib.Core.Logic.{⊎-elim}
 use native.Mathlib.Omega.{arith}
 use borrow.Author.Count.{below-none}
+use borrow.Author.Tests.{not-true, not-false}
 use lib.ListN.{length, getD, set, length-set}
 use Rattle.model.specs.Finding.{World}
-use Rattle.model.specs.Graph.{friendships, IsDegree}
-use Rattle.model.proofs.Suggesting.{suggestible-near, suggestible-degree, apart}
-use Rattle.distance_mark.specs.Mark.{IsDistance}
-use Rattle.distance_mark.specs.declared.Distance.{Distance}
-use Rattle.distance_mark.specs.declared.Distance.the-variants.{Friendships, AboveLimit}
-use Rattle.finding.specs.Everyone.{Everyone}
-use Rattle.sets.specs.Rows.{FriendRow}
+use Rattle.model.specs.Suggestions.{Suggestible}
+use Rattle.sets.specs.Rows.{rowBit, rowOf}
 use Rattle.sets.specs.Sets.{CommonBits}
 use Rattle.starts.proofs.OneStored.{Stored, one-stored}
-use Rattle.suggestions.specs.Ranks.{Ranked, RanksBelow}
+use Rattle.suggestions.specs.Ranks.{Sources, Ranked, RanksBelow}
 
--- v does not find m
-pub rank-unfound : {w : World} {v m : ℕ} {found : List ℕ} → Everyone w v found → m < w .graph .members → getD found m 0 ≡ 0 → Ranked w v m 0
-rank-unfound {m = m} all b z = record {
-  may = λ l. absurd (omega arith);
-  counted = λ s. absurd (omega (arith, all .exactly m b .1 (s .found)));
-}
+-- m may not be suggested
+pub rank-none : {w : World} {v m : ℕ} → (Suggestible w v m → ⊥) → Ranked w v m 0
+rank-none n = record { may = λ l. absurd (omega arith); counted = λ s. absurd (n s) }
 
-module _ (w : World) (both : (x y : ℕ) → w .graph .friends x y ≡ w .graph .friends y x) {v m : ℕ} {x : Distance} (far : IsDistance (w .graph) 2 m v x) where
-  -- m is further off
-  pub rank-beyond : x ≡ AboveLimit → Ranked w v m 0
-  rank-beyond e = record {
-    may = λ l. absurd (omega arith);
-    counted = λ s. absurd (subst (IsDistance (w .graph) 2 m v) e far (suggestible-near w both s));
-  }
+module _ {w : World} {v m : ℕ} {found near friends rows : List ℕ} (r : Sources w v found near friends rows) (b : m < w .graph .members) where
+  pub unfound : getD found m 0 ≡ 0 → Suggestible w v m → ⊥
+  unfound z s = omega (arith, r .all .exactly m b .1 (s .found))
 
-  module _ {d : ℕ} (e : x ≡ Friendships d) where
-    degree : IsDegree (w .graph) m v (friendships d)
-    degree = subst (IsDistance (w .graph) 2 m v) e far .1
+  friend : rowBit friends m ≡ w .graph .friends v m
+  friend = r .own .bits m (omega (arith, r .few))
 
-    -- m is v or a friend
-    pub rank-near : (d ≡ 2 → ⊥) → Ranked w v m 0
-    rank-near n = record { may = λ l. absurd (omega arith); counted = λ s. absurd (n (suggestible-degree w both s d degree)) }
+  pub befriended : {t : Bool} → t ≡ rowBit friends m → t ≡ true → Suggestible w v m → ⊥
+  befriended e t s = s .no-friend (sym friend ∙ sym e ∙ t)
 
-    -- m may be suggested, where it shares a friend
-    pub rank-shared : {found friends row : List ℕ} {r : ℕ} → Everyone w v found → m < w .graph .members → w .graph .members ≤ 256
-        → (getD found m 0 ≡ 0 → ⊥)
-        → d ≡ 2
-        → FriendRow (w .graph) v friends
-        → FriendRow (w .graph) m row
-        → CommonBits friends row r
-        → Ranked w v m r
-    rank-shared all member few f two own others c =
-        let (other, no-friend) = apart w both (rw two at degree) in
-        let h = c .shares (w .graph) v m few own others in
-        record {
-          may = λ l. record { found = all .exactly m member .0 (omega arith); other = other; no-friend = no-friend; sharing = omega arith };
-          counted = λ s. h;
-        }
+  pub far : {t : Bool} → t ≡ rowBit near m → not t ≡ true → Suggestible w v m → ⊥
+  far e t s = false≢true (sym (not-true _ t) ∙ e ∙ r .around .has m b (s .sharing))
+
+  -- m may be suggested, where it shares a friend
+  pub rank-shared : {t n : Bool} {row : List ℕ} {k : ℕ}
+      → (getD found m 0 ≡ 0 → ⊥)
+      → (m ≡ v → ⊥)
+      → t ≡ rowBit friends m
+      → t ≡ false
+      → n ≡ rowBit near m
+      → not n ≡ false
+      → row ≡ rowOf rows m
+      → CommonBits friends row k
+      → Ranked w v m k
+  rank-shared f o e t d n q c =
+      let h = c .shares (w .graph) v m (r .few) (r .own) (rw q (r .each m b (sym d ∙ not-false _ n))) in
+      record {
+        may = λ l. record { found = r .all .exactly m b .0 (omega arith); other = o; no-friend = λ y. false≢true (sym t ∙ e ∙ friend ∙ y); sharing = omega arith };
+        counted = λ s. h;
+      }
 
 pub ranks-none : {w : World} {v : ℕ} {ranks : List ℕ} → length ranks ≡ 256 → ((m : ℕ) → getD ranks m 0 ≡ 0) → RanksBelow w v 0 ranks
 ranks-none l z = record { long = l; each = below-none _; none = λ m b. z m }

@@ -1,15 +1,13 @@
 // Suggested contacts: whom a member might know (document 02, 2026-02).
-use distance_mark::Distance;
 use scheme::Reading;
 use tables::Summary;
 ghost use mathlib.Core.Path.{_≡_};
 ghost use Prim.Native.Nat.{ℕ, _<_};
 ghost use lib.ListN.{length, getD};
-ghost use Rattle.distance.specs.Distances.{Distances};
+ghost use Rattle.model.specs.Finding.{World};
 ghost use Rattle.finding.specs.Everyone.{Everyone};
-ghost use Rattle.network.specs.Ready.{Ready, worldOf, graphOf};
-ghost use Rattle.sets.specs.Rows.{FriendRow};
-ghost use Rattle.suggestions.specs.Ranks.{Ranked, RanksBelow};
+ghost use Rattle.network.specs.Ready.{Ready, worldOf};
+ghost use Rattle.suggestions.specs.Ranks.{Sources, Ranked, RanksBelow};
 ghost use Rattle.suggestions.specs.Answered.{SuggestCalled};
 
 // The call's answer: how many members it wrote, or the refusal's number.
@@ -25,31 +23,24 @@ fn no_ranks() -> [u32; 256]
     [0u32; 256]
 }
 
-// How many friends m shares with v, whose friends are given; 0 where m may not be suggested: v does not find it, or it is v, a
-// friend, or more than two friendships off.
-fn rank(
-    scheme: &[u8],
-    summary: Summary,
-    network: &[u8],
-    found: &[u16],
-    distances: &[u16],
-    friends: [u64; 4],
-    v: usize,
-    m: usize,
-) -> u32
-    requires { ⌜ Ready (now scheme) summary (now network) × Everyone (worldOf (now scheme) (now network)) v (now found) × Distances (graphOf (now scheme) (now network)) v 2 (now distances) × (length (now distances) ≡ 256) × FriendRow (graphOf (now scheme) (now network)) v friends × (m < summary .members) ⌝ }
-    ensures { λ r. ⌜ Ranked (worldOf (now (scheme .entry)) (now (network .entry))) v m r ⌝ }
+// How many friends m shares with v; 0 where m may not be suggested: v does not find it, or it is v, a friend, or not near.
+fn rank(found: &[u16], near: [u64; 4], friends: [u64; 4], rows: &[u64], v: usize, m: usize) -> u32
+    requires { ⌜ (length (now found) ≡ 256) × (length (now rows) ≡ 1024) × (m < 256) ⌝ }
+    ensures { λ r. ⌜ ((w : World) → Sources w v (now (found .entry)) near friends (now (rows .entry)) → m < w .graph .members → Ranked w v m r) ⌝ }
 {
     if found[m] == 0 {
         return 0;
     }
-    let Distance::Friendships(d) = distance_mark::read(distances[m]) else {
-        return 0;
-    };
-    if d != 2 {
+    if m == v {
         return 0;
     }
-    sets::shared(friends, rows::friend_row(scheme, summary, network, m))
+    if sets::has(friends, m) {
+        return 0;
+    }
+    if !sets::has(near, m) {
+        return 0;
+    }
+    sets::shared(friends, sets::row(rows, m))
 }
 
 // Writes the ranks of all members.
@@ -64,12 +55,13 @@ fn rank_all(
     requires { ⌜ Ready (now scheme) summary (now network) × (v < summary .members) × Everyone (worldOf (now scheme) (now network)) v (now found) × RanksBelow (worldOf (now scheme) (now network)) v 0 (now ranks) ⌝ }
     ensures { λ r. ⌜ RanksBelow (worldOf (now (scheme .entry)) (now (network .entry))) v (summary .members) (now (ranks .exit)) ⌝ }
 {
-    let mut distances = distance::no_distances();
-    distance::fill(scheme, summary, network, v, 2, &mut distances);
     let friends = rows::friend_row(scheme, summary, network, v);
+    let near = nearby::members(scheme, summary, network, friends);
+    let mut rows = row_table::no_rows();
+    row_table::fill_asked(scheme, summary, network, near, &mut rows);
     let mut m: usize = 0;
     while m < summary.members {
-        ranks[m] = rank(scheme, summary, network, found, &distances, friends, v, m);
+        ranks[m] = rank(found, near, friends, &rows, v, m);
         m += 1;
     }
 }

@@ -1,5 +1,5 @@
 use mathlib.Core.Path.{refl}
-use Rattle.starts.proofs.OneStored.{all-zero}
+use Rattle.friend_flags.proofs.Friendships.{all-zero}
 use Rattle.starts.proofs.unseen.Statement.{statement}
 use Rattle.starts.proofs.unseen.Tie as tie
 

@@ -1,5 +1,5 @@
 use mathlib.Core.Path.{refl}
-use Rattle.starts.proofs.OneStored.{all-zero}
+use Rattle.friend_flags.proofs.Friendships.{all-zero}
 use Rattle.suggestions.proofs.no_ranks.Statement.{statement}
 use Rattle.suggestions.proofs.no_ranks.Tie as tie
 

@@ -7,7 +7,7 @@ use Rattle.model.specs.Network.{pairs}
 use Rattle.network.specs.Ready.{graphOf}
 use Rattle.network.proofs.Reading.{ready-range, pairs-small, pairs-more, pair-inside, friends-byte}
 use Rattle.next_friend.specs.Spread.{Spread, Run}
-use Rattle.next_friend.proofs.Spreading.{spread-none, spread-pass, spread-stranger, spread-mark}
+use Rattle.next_friend.proofs.Spreading.{spread-none, spread-pass, spread-told}
 use Rattle.next_friend.proofs.marks.above.Statement.{statement}
 use Rattle.next_friend.proofs.marks.above.Tie as tie
 
@@ -32,21 +32,24 @@ loop-holds c =
     let p = c .before .before .before .before .pre in
     (omega arith, omega arith, omega (arith, c .pairs .ensures .0), spread-none (p .3) (λ j k t. absurd (omega (arith, t .1, t .2))))
 
+mul-if2 : tie.Need-mul-if2 Inv-loop μ-loop
+mul-if2 c = omega (arith, ready-range (start (c .before .before) .pre .0))
+
+slice-read-if2 : tie.Need-slice-read-if2 Inv-loop μ-loop
+slice-read-if2 c =
+    let a = c .before .before .before in
+    omega (arith, ready-range (start a .pre .0), a .loop .inv .3 .size)
+
 shared-slice-read-marked : tie.Need-shared-slice-read-marked Inv-loop μ-loop
 shared-slice-read-marked c =
-    let a = c .before .before .before in
-    omega (arith, a .loop .inv .2, pair-inside (start a .pre .0) (start a .args .m) (a .loop .k) (omega arith) (c .before .if1 .taken))
+    let a = c .before .before .before .before .before in
+    omega (arith, a .loop .inv .2, pair-inside (start a .pre .0) (start a .args .m) (a .loop .k) (omega arith) (c .before .before .before .if1 .taken))
 
 marked-requires : tie.Need-marked-requires Inv-loop μ-loop
 marked-requires c κs = search needs
 
-mul-if3 : tie.Need-mul-if3 Inv-loop μ-loop
-mul-if3 c = omega (arith, ready-range (start (c .before .before .before .before .before) .pre .0))
-
-slice-read-if3 : tie.Need-slice-read-if3 Inv-loop μ-loop
-slice-read-if3 c =
-    let a = c .before .before .before .before .before .before in
-    omega (arith, ready-range (start a .pre .0), a .loop .inv .3 .size)
+for-friend-requires : tie.Need-for-friend-requires Inv-loop μ-loop
+for-friend-requires c κs = search needs
 
 mul-marks : tie.Need-mul-marks Inv-loop μ-loop
 mul-marks c = omega (arith, ready-range (start (c .before .before .before .before .before .before .before) .pre .0))
@@ -58,7 +61,7 @@ slice-write-marks c =
 
 add-at-2 : tie.Need-add-at-2 Inv-loop μ-loop
 add-at-2 c =
-    let a = c .before .before .before .before .before in
+    let a = c .before .before .before .before in
     omega (arith, ready-range (start a .pre .0), a .loop .inv .2, pairs-small (a .loop .k) (omega (arith, ready-range (start a .pre .0))))
 
 add-k : tie.Need-add-k Inv-loop μ-loop
@@ -69,19 +72,19 @@ loop-less c = omega arith
 
 loop-again : tie.Need-loop-again Inv-loop μ-loop
 loop-again c =
-    let a = c .before .before .before .before .before in
+    let a = c .before .before .before .before in
     let s = start a in
     let x = a .loop .inv .3 in
     let r = ready-range (s .pre .0) in
     let e = s .pre .0 .counts .members in
-    let l = c .before .before .before .if1 .taken in
-    let f = friends-byte (s .pre .0) (s .args .m) (a .loop .k) _ (omega arith) l (a .loop .inv .2) (c .before .marked .ensures) .1 in (
+    let l = c .before .before .if1 .taken in
+    let f = friends-byte (s .pre .0) (s .args .m) (a .loop .k) in (
       omega arith,
       omega arith,
       omega (arith, a .loop .inv .2, pairs-more (a .loop .k)),
       ⊎-elim
-          (λ w. rw (w .3) (spread-mark x (a .loop .inv .0) (omega arith) (omega arith) (omega arith) (s .pre .2) (w .2 .taken) f (w .0 .taken)))
-          (⊎-elim (λ w. rw (w .3) (spread-pass x (w .2 .left))) (λ w. rw (w .1) (spread-stranger x f (w .0 .left))))
+          (λ w. rw (w .4) (spread-told x (w .2 .result) (w .3 .result) (a .loop .inv .0) (omega arith) (omega arith) (omega arith) (s .pre .2) (w .0 .taken) (f _ _ (omega arith) l (a .loop .inv .2) (w .2 .ensures) .1) (w .3 .ensures)))
+          (λ w. rw (w .1) (spread-pass x (w .0 .left)))
           (c .if2 .came),
     )
 
@@ -103,10 +106,11 @@ above-spec =
     pairs-requires
     add-at
     loop-holds
+    mul-if2
+    slice-read-if2
     shared-slice-read-marked
     marked-requires
-    mul-if3
-    slice-read-if3
+    for-friend-requires
     mul-marks
     slice-write-marks
     add-at-2

@@ -6,7 +6,7 @@ use borrow.Author.Needs.{needs}
 use Rattle.network.specs.Ready.{graphOf}
 use Rattle.network.proofs.Reading.{ready-range, pair-inside, friends-byte}
 use Rattle.next_friend.specs.Spread.{Spread, Run}
-use Rattle.next_friend.proofs.Spreading.{spread-none, spread-pass, spread-stranger, spread-mark}
+use Rattle.next_friend.proofs.Spreading.{spread-none, spread-pass, spread-told}
 use Rattle.next_friend.proofs.marks.below.Statement.{statement}
 use Rattle.next_friend.proofs.marks.below.Tie as tie
 
@@ -28,24 +28,27 @@ loop-holds c =
     let p = c .before .before .before .before .pre in
     (omega arith, omega arith, spread-none (p .3) (λ j k t. absurd (omega (arith, t .1, t .2))))
 
+mul-if1 : tie.Need-mul-if1 Inv-loop μ-loop
+mul-if1 c = omega (arith, ready-range (start (c .before) .pre .0))
+
+slice-read-if1 : tie.Need-slice-read-if1 Inv-loop μ-loop
+slice-read-if1 c =
+    let a = c .before .before in
+    omega (arith, ready-range (start a .pre .0), a .loop .inv .2 .size)
+
 add-marked : tie.Need-add-marked Inv-loop μ-loop
-add-marked c = omega (arith, ready-range (start (c .before) .pre .0))
+add-marked c = omega (arith, ready-range (start (c .before .before .before) .pre .0))
 
 shared-slice-read-marked : tie.Need-shared-slice-read-marked Inv-loop μ-loop
 shared-slice-read-marked c =
-    let a = c .before .before in
-    omega (arith, pair-inside (start a .pre .0) (a .loop .k) (start a .args .m) (c .before .loop-test .taken) (start a .pre .1))
+    let a = c .before .before .before .before in
+    omega (arith, pair-inside (start a .pre .0) (a .loop .k) (start a .args .m) (c .before .before .before .loop-test .taken) (start a .pre .1))
 
 marked-requires : tie.Need-marked-requires Inv-loop μ-loop
 marked-requires c κs = search needs
 
-mul-if2 : tie.Need-mul-if2 Inv-loop μ-loop
-mul-if2 c = omega (arith, ready-range (start (c .before .before .before .before) .pre .0))
-
-slice-read-if2 : tie.Need-slice-read-if2 Inv-loop μ-loop
-slice-read-if2 c =
-    let a = c .before .before .before .before .before in
-    omega (arith, ready-range (start a .pre .0), a .loop .inv .2 .size)
+for-friend-requires : tie.Need-for-friend-requires Inv-loop μ-loop
+for-friend-requires c κs = search needs
 
 mul-marks : tie.Need-mul-marks Inv-loop μ-loop
 mul-marks c = omega (arith, ready-range (start (c .before .before .before .before .before .before) .pre .0))
@@ -63,18 +66,19 @@ loop-less c = omega arith
 
 loop-again : tie.Need-loop-again Inv-loop μ-loop
 loop-again c =
-    let a = c .before .before .before .before in
+    let a = c .before .before .before in
     let s = start a in
     let x = a .loop .inv .2 in
     let r = ready-range (s .pre .0) in
     let e = s .pre .0 .counts .members in
-    let l = c .before .before .before .loop-test .taken in
-    let f = friends-byte (s .pre .0) (a .loop .k) (s .args .m) _ l (s .pre .1) (omega (arith, a .before .pairs .ensures .0)) (c .before .marked .ensures) .0 in (
+    let l = c .before .before .loop-test .taken in
+    let p = a .before .pairs .ensures .0 in
+    let f = friends-byte (s .pre .0) (a .loop .k) (s .args .m) in (
       omega arith,
       omega arith,
       ⊎-elim
-          (λ w. rw (w .3) (spread-mark x (a .loop .inv .0) (omega arith) (omega arith) (omega arith) (s .pre .2) (w .2 .taken) f (w .0 .taken)))
-          (⊎-elim (λ w. rw (w .3) (spread-pass x (w .2 .left))) (λ w. rw (w .1) (spread-stranger x f (w .0 .left))))
+          (λ w. rw (w .4) (spread-told x (w .2 .result) (w .3 .result) (a .loop .inv .0) (omega arith) (omega arith) (omega arith) (s .pre .2) (w .0 .taken) (f _ _ l (s .pre .1) (omega arith) (w .2 .ensures) .0) (w .3 .ensures)))
+          (λ w. rw (w .1) (spread-pass x (w .0 .left)))
           (c .if1 .came),
     )
 
@@ -95,11 +99,12 @@ below-spec =
     μ-loop
     pairs-requires
     loop-holds
+    mul-if1
+    slice-read-if1
     add-marked
     shared-slice-read-marked
     marked-requires
-    mul-if2
-    slice-read-if2
+    for-friend-requires
     mul-marks
     slice-write-marks
     add-k

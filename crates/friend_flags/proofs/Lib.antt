@@ -1,0 +1,3 @@
+pub mod Friendships
+pub mod Packing
+pub mod Telling
