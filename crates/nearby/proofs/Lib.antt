@@ -1,1 +1,2 @@
 mod Nearby
+mod Passing

@@ -7,7 +7,7 @@ use native.Mathlib.Omega.{arith}
 use Rattle.model.specs.Graph.{Graph, Friends}
 use Rattle.model.proofs.Counting.{count-some}
 use Rattle.model.proofs.Deciding.{is-true, conj}
-use Rattle.row_table.proofs.Passing.{Passed, passed-next}
+use Rattle.nearby.proofs.Passing.{Passed, passed-next}
 use Rattle.sets.specs.Rows.{rowBit, FriendRow}
 use Rattle.sets.specs.Sets.{Has, Join, FirstFrom}
 use Rattle.nearby.specs.Near.{Near}

@@ -1,10 +1,11 @@
-// Friend rows of many members: of all, and of those asked for.
+// The friend rows of all members, and one of them off the table or without it.
 use tables::Summary;
 ghost use mathlib.Core.Path.{_≡_};
-ghost use Prim.Native.Nat.{ℕ};
+ghost use Prim.Native.Nat.{ℕ, _<_};
 ghost use lib.ListN.{length, getD};
 ghost use Rattle.network.specs.Ready.{Ready, graphOf};
-ghost use Rattle.row_table.specs.Filled.{RowsFilled, RowsAsked};
+ghost use Rattle.sets.specs.Rows.{FriendRow, AllRows};
+ghost use Rattle.row_table.specs.Filled.{RowsFilled};
 
 // A table with room for a row of each member.
 pub fn no_rows() -> [u64; 1024]
@@ -45,19 +46,13 @@ pub fn fill_rows(scheme: &[u8], c: Summary, network: &[u8], rows: &mut [u64])
     }
 }
 
-// Writes at least the friend rows of the members asked for: of all, where that takes no longer than row by row.
-pub fn fill_asked(scheme: &[u8], c: Summary, network: &[u8], asked: [u64; 4], rows: &mut [u64])
-    requires { ⌜ Ready (now scheme) c (now network) × (length (now rows) ≡ 1024) ⌝ }
-    ensures { λ r. ⌜ RowsAsked (graphOf (now (scheme .entry)) (now (network .entry))) asked (now (rows .entry)) (now (rows .exit)) ⌝ }
+// m's friends: off the table, where one is lent, else off the pair bytes.
+pub fn row(scheme: &[u8], c: Summary, network: &[u8], rows: &[u64], m: usize) -> [u64; 4]
+    requires { ⌜ Ready (now scheme) c (now network) × (m < c .members) × (length (now rows) ≡ 1024 → AllRows (graphOf (now scheme) (now network)) (now rows)) ⌝ }
+    ensures { λ r. ⌜ FriendRow (graphOf (now (scheme .entry)) (now (network .entry))) m r ⌝ }
 {
-    if sets::shared(asked, asked) > 32 {
-        fill_rows(scheme, c, network, rows);
-        return;
+    if rows.len() == 1024 {
+        return sets::row(rows, m);
     }
-    let mut m = sets::first_from(asked, 0);
-    while m < c.members {
-        let row = rows::friend_row(scheme, c, network, m);
-        sets::put_row(rows, m, row);
-        m = sets::first_from(asked, m + 1);
-    }
+    rows::friend_row(scheme, c, network, m)
 }

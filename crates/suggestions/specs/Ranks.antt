@@ -8,16 +8,14 @@ use Rattle.model.specs.Finding.{World}
 use Rattle.model.specs.Suggestions.{Suggestible}
 use Rattle.finding.specs.Everyone.{Everyone}
 use Rattle.nearby.specs.Near.{Near}
-use Rattle.sets.specs.Rows.{rowOf, FriendRow}
-use Rattle.sets.specs.Sets.{Has}
+use Rattle.sets.specs.Rows.{FriendRow, AllRows}
 
--- what v's ranks are read from: whom v finds, who is near, v's friends, and the friends of those near
+-- what v's ranks are read from: whom v finds, who is near, v's friends, and a table of all rows, where it has the length of one
 pub record Sources (w : World) (v : ℕ) (found near friends rows : List ℕ) : Type 0 where
-  pub few : w .graph .members ≤ 256
   pub all : Everyone w v found
   pub around : Near (w .graph) v near
   pub own : FriendRow (w .graph) v friends
-  pub each : (m : ℕ) → m < w .graph .members → Has near m → FriendRow (w .graph) m (rowOf rows m)
+  pub table : length rows ≡ 1024 → AllRows (w .graph) rows
 
 -- r is how many friends m shares with v; 0 where m may not be suggested to v
 pub record Ranked (w : World) (v m r : ℕ) : Type 0 where

@@ -4,7 +4,6 @@ use tables::Summary;
 ghost use mathlib.Core.Path.{_≡_};
 ghost use Prim.Native.Nat.{ℕ, _<_};
 ghost use lib.ListN.{length, getD};
-ghost use Rattle.model.specs.Finding.{World};
 ghost use Rattle.finding.specs.Everyone.{Everyone};
 ghost use Rattle.network.specs.Ready.{Ready, worldOf};
 ghost use Rattle.suggestions.specs.Ranks.{Sources, Ranked, RanksBelow};
@@ -23,10 +22,21 @@ fn no_ranks() -> [u32; 256]
     [0u32; 256]
 }
 
-// How many friends m shares with v; 0 where m may not be suggested: v does not find it, or it is v, a friend, or not near.
-fn rank(found: &[u16], near: [u64; 4], friends: [u64; 4], rows: &[u64], v: usize, m: usize) -> u32
-    requires { ⌜ (length (now found) ≡ 256) × (length (now rows) ≡ 1024) × (m < 256) ⌝ }
-    ensures { λ r. ⌜ ((w : World) → Sources w v (now (found .entry)) near friends (now (rows .entry)) → m < w .graph .members → Ranked w v m r) ⌝ }
+// How many friends m shares with v, whose friends are given; 0 where m may not be suggested: v does not find it, or it is v, a
+// friend, or not near. Rows are a table of all or nothing.
+fn rank(
+    scheme: &[u8],
+    summary: Summary,
+    network: &[u8],
+    found: &[u16],
+    near: [u64; 4],
+    friends: [u64; 4],
+    rows: &[u64],
+    v: usize,
+    m: usize,
+) -> u32
+    requires { ⌜ Ready (now scheme) summary (now network) × Sources (worldOf (now scheme) (now network)) v (now found) near friends (now rows) × (m < summary .members) ⌝ }
+    ensures { λ r. ⌜ Ranked (worldOf (now (scheme .entry)) (now (network .entry))) v m r ⌝ }
 {
     if found[m] == 0 {
         return 0;
@@ -40,10 +50,32 @@ fn rank(found: &[u16], near: [u64; 4], friends: [u64; 4], rows: &[u64], v: usize
     if !sets::has(near, m) {
         return 0;
     }
-    sets::shared(friends, sets::row(rows, m))
+    sets::shared(friends, row_table::row(scheme, summary, network, rows, m))
 }
 
 // Writes the ranks of all members.
+fn rank_each(
+    scheme: &[u8],
+    summary: Summary,
+    network: &[u8],
+    found: &[u16],
+    near: [u64; 4],
+    friends: [u64; 4],
+    rows: &[u64],
+    v: usize,
+    ranks: &mut [u32],
+)
+    requires { ⌜ Ready (now scheme) summary (now network) × Sources (worldOf (now scheme) (now network)) v (now found) near friends (now rows) × RanksBelow (worldOf (now scheme) (now network)) v 0 (now ranks) ⌝ }
+    ensures { λ r. ⌜ RanksBelow (worldOf (now (scheme .entry)) (now (network .entry))) v (summary .members) (now (ranks .exit)) ⌝ }
+{
+    let mut m: usize = 0;
+    while m < summary.members {
+        ranks[m] = rank(scheme, summary, network, found, near, friends, rows, v, m);
+        m += 1;
+    }
+}
+
+// Writes the ranks of all members, by the table of all rows where many are near.
 fn rank_all(
     scheme: &[u8],
     summary: Summary,
@@ -57,13 +89,34 @@ fn rank_all(
 {
     let friends = rows::friend_row(scheme, summary, network, v);
     let near = nearby::members(scheme, summary, network, friends);
-    let mut rows = row_table::no_rows();
-    row_table::fill_asked(scheme, summary, network, near, &mut rows);
-    let mut m: usize = 0;
-    while m < summary.members {
-        ranks[m] = rank(found, near, friends, &rows, v, m);
-        m += 1;
+    if sets::shared(near, near) > 32 {
+        let mut rows = row_table::no_rows();
+        row_table::fill_rows(scheme, summary, network, &mut rows);
+        rank_each(
+            scheme,
+            summary,
+            network,
+            found,
+            near,
+            friends,
+            &rows,
+            v,
+            ranks,
+        );
+        return;
     }
+    let none = [0u64; 1];
+    rank_each(
+        scheme,
+        summary,
+        network,
+        found,
+        near,
+        friends,
+        &none,
+        v,
+        ranks,
+    );
 }
 
 // Suggest: the first c of the members that v might know.

@@ -6,7 +6,7 @@ use Rattle.model.specs.SchemeBytes.{schemeOf}
 use Rattle.model.proofs.Symmetry.{friends-comm}
 use Rattle.network.specs.Ready.{graphOf}
 use Rattle.network.proofs.Reading.{ready-range}
-use Rattle.row_table.proofs.Passing.{Passed, passed-none}
+use Rattle.nearby.proofs.Passing.{Passed, passed-none}
 use Rattle.nearby.proofs.Nearby.{Around, near-everybody, around-next, near-all}
 use Rattle.nearby.proofs.members.Statement.{statement}
 use Rattle.nearby.proofs.members.Tie as tie
