@@ -19,7 +19,7 @@ pub fn members(scheme: &[u8], c: Summary, network: &[u8], friends: [u64; 4]) -> 
     requires { ⌜ Ready (now scheme) c (now network) ⌝ }
     ensures { λ r. ⌜ ((v : ℕ) → FriendRow (graphOf (now (scheme .entry)) (now (network .entry))) v friends → Near (graphOf (now (scheme .entry)) (now (network .entry))) v r) ⌝ }
 {
-    if sets::shared(friends, friends) as usize > c.members / 8 {
+    if sets::shared(friends, friends) as usize > c.members / 16 + 8 {
         return everybody();
     }
     let mut all = [0u64; 4];

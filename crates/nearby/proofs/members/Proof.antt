@@ -30,6 +30,9 @@ shared-requires c κs = search needs
 cast-if1 : tie.Need-cast-if1 Inv-loop μ-loop
 cast-if1 c = search needs
 
+add-if1 : tie.Need-add-if1 Inv-loop μ-loop
+add-if1 c = omega (arith, ready-range (c .before .before .before .before .pre))
+
 everybody-requires : tie.Need-everybody-requires Inv-loop μ-loop
 everybody-requires c κs = search needs
 
@@ -79,6 +82,7 @@ members-spec =
     μ-loop
     shared-requires
     cast-if1
+    add-if1
     everybody-requires
     returns
     first-from-requires
