@@ -14,8 +14,8 @@ ROOT = os.path.normpath(os.path.join(os.path.dirname(os.path.abspath(__file__)),
 SIGNATURE = re.compile(r'^\s*(?:(?:abbrev|unfoldable|pub|opaque) )*([^\s(){}\[\].,;:]+) :(?: |$)')
 TOKEN = re.compile(r"[^\s(){}\[\].,;:λ◌∷×≡<≤→←⊎+*/^%&|=!?\"`]+")
 
-# lemmas whose new name would be that of a function, or of another lemma beside it
-LEMMAS = ('lowest-from', 'is-record', 'is-clique', 'has-degree', 'friend-of-all', 'sides-for', 'next-in', 'event-judged', 'by-word', 'kind-of',
+# lemmas whose new name would be that of a function
+LEMMAS = ('bit-and', 'bit-or', 'lowest-from', 'is-record', 'is-clique', 'has-degree', 'friend-of-all', 'sides-for', 'next-in', 'event-judged', 'by-word', 'kind-of',
           'is_within', 'too_long')
 
 

@@ -12,7 +12,7 @@ use lib.Bits.{bit_or}
 use lib.ListN.{length}
 use Rattle.model.specs.Bytes.{byte, four, bit, NoBitFrom}
 use Rattle.model.specs.Decides.{Decides}
-use Rattle.model.proofs.Bits.{bit_or}
+use Rattle.model.proofs.Bits.{bit_or_lem}
 use Rattle.model.proofs.Deciding.{decided, says, iff}
 use Rattle.model.proofs.Sets.{none_in_zero}
 use Rattle.model.specs.SchemeBytes.{S, A, I, P, at2, at3, at4, at5, field, MoveFits, PolicyFits, MaskFits, Records}
@@ -50,9 +50,9 @@ joined_more f P n all s j = record {
   some = below_more (λ (k : ℕ). 1 ≤ f k) n j.some s;
   none = (
     λ h.
-        below_more (λ (k : ℕ). NoBitFrom P (f k)) n (j.none.0 (λ q l. (neither (bit all q) (bit (f n) q) (sym (bit_or all (f n) q) ∙ h q l)).0))
-        (λ q l. (neither (bit all q) (bit (f n) q) (sym (bit_or all (f n) q) ∙ h q l)).1),
-    λ h q l. bit_or all (f n) q ∙ ap₂ ◌||◌ (j.none.1 (λ k m. h k (omega arith)) q l) (h n (omega arith) q l),
+        below_more (λ (k : ℕ). NoBitFrom P (f k)) n (j.none.0 (λ q l. (neither (bit all q) (bit (f n) q) (sym (bit_or_lem all (f n) q) ∙ h q l)).0))
+        (λ q l. (neither (bit all q) (bit (f n) q) (sym (bit_or_lem all (f n) q) ∙ h q l)).1),
+    λ h q l. bit_or_lem all (f n) q ∙ ap₂ ◌||◌ (j.none.1 (λ k m. h k (omega arith)) q l) (h n (omega arith) q l),
   );
 }
 

@@ -12,7 +12,7 @@ use lib.Dec.{eqb}
 use lib.ListN.{get_or}
 use lib.Pow.{pow-add, pow_mono, shl_exact, shl-shr}
 use Rattle.model.specs.Bytes.{digit, bit, four}
-use Rattle.model.proofs.Bits.{digit_or, bit_or, digit_shr, digit_above, digit_zero, digit_suc, no_bit, below_no_bit, no_bit_below}
+use Rattle.model.proofs.Bits.{digit_or, bit_or_lem, digit_shr, digit_above, digit_zero, digit_suc, no_bit, below_no_bit, no_bit_below}
 use Rattle.model.proofs.Sets.{none_in_zero}
 use Rattle.friend_flags.specs.Flags.{Packed}
 
@@ -59,7 +59,7 @@ module _ (word x s : ℕ) (small : x < 256) (fits : s ≤ 56) where
   or_low p h = ap (λ (d : ℕ). eqb d 1) (low_digit p h)
 
   pub or_high : (q : ℕ) → q < 8 → bit (bit_or word (x * 2 ^ s % 2 ^ 64)) (s + q) ≡ (bit word (s + q) || bit x q)
-  or_high q h = ap (λ (d : ℕ). eqb d 1) (shifted (s + q)) ∙ bit_or word (x * 2 ^ s) (s + q) ∙ ap (λ (d : ℕ). bit word (s + q) || eqb d 1) (shifted_high x s q)
+  or_high q h = ap (λ (d : ℕ). eqb d 1) (shifted (s + q)) ∙ bit_or_lem word (x * 2 ^ s) (s + q) ∙ ap (λ (d : ℕ). bit word (s + q) || eqb d 1) (shifted_high x s q)
 
   pub or_above : (p : ℕ) → s + 8 ≤ p → bit (bit_or word (x * 2 ^ s % 2 ^ 64)) p ≡ bit word p
   or_above p h = ap (λ (d : ℕ). eqb d 1) (above_digit p h)

@@ -63,8 +63,8 @@ pub no_bit : (x p : ℕ) → bit x p ≡ false → digit x p ≡ 0
 no_bit x p e = let h : digit x p ≡ 1 → ⊥ = eqb-false (digit x p) 1 e in omega (arith, digit_lt x p)
 
 -- `a & b`, bit by bit
-pub bit_and : (x y p : ℕ) → bit (bit_and x y) p ≡ (bit x p && bit y p)
-bit_and x y p = go (ℕ_discrete (digit x p) 1) (ℕ_discrete (digit y p) 1)
+pub bit_and_lem : (x y p : ℕ) → bit (bit_and x y) p ≡ (bit x p && bit y p)
+bit_and_lem x y p = go (ℕ_discrete (digit x p) 1) (ℕ_discrete (digit y p) 1)
   where
     d : digit (bit_and x y) p ≡ min (digit x p) (digit y p)
     d = digit_and x y p
@@ -75,8 +75,8 @@ bit_and x y p = go (ℕ_discrete (digit x p) 1) (ℕ_discrete (digit y p) 1)
     go (no a) b = bit_no (bit_and x y) p (omega (arith, d, digit_lt x p)) ∙ sym (rw (bit_no x p (omega (arith, digit_lt x p))))
 
 -- `a | b`, bit by bit
-pub bit_or : (x y p : ℕ) → bit (bit_or x y) p ≡ (bit x p || bit y p)
-bit_or x y p = go (ℕ_discrete (digit x p) 1) (ℕ_discrete (digit y p) 1)
+pub bit_or_lem : (x y p : ℕ) → bit (bit_or x y) p ≡ (bit x p || bit y p)
+bit_or_lem x y p = go (ℕ_discrete (digit x p) 1) (ℕ_discrete (digit y p) 1)
   where
     d : digit (bit_or x y) p ≡ max (digit x p) (digit y p)
     d = digit_or x y p

@@ -14,7 +14,7 @@ use lib.ListN.{get_or}
 use lib.Pow.{pow_pos, mod-pow-add}
 use Rattle.model.specs.Bytes.{digit, bit}
 use Rattle.model.specs.Graph.{Graph, one, count, shared}
-use Rattle.model.proofs.Bits.{digit_lt, bit_and}
+use Rattle.model.proofs.Bits.{digit_lt, bit_and_lem}
 use Rattle.model.proofs.Counting.{count_ext, count_split, count_above}
 use Rattle.model.specs.SchemeBytes.{n as members}
 use Rattle.sets.specs.Rows.{row_bit, FriendRow}
@@ -45,7 +45,7 @@ ones_common x y hx hy =
     sym (ap ones (mod-eq_of_lt (and_lt 64 x y hx hy)))
     ∙ ones_count (bit_and x y) 64
     ∙ count_ext (bit (bit_and x y)) (λ (m : ℕ). bit x m && bit y m) 64
-    (λ m h. bit_and x y m)
+    (λ m h. bit_and_lem x y m)
 
 -- ---- the common bits of two rows
 

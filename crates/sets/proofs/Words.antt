@@ -20,7 +20,7 @@ use lib.Dec.{eqb}
 use lib.ListN.{length, get_or, set, length-set, get_or-eq_default}
 use lib.Seq.{ext_get_or, get_or-set_same, get_or-set_other}
 use Rattle.model.specs.Bytes.{bit}
-use Rattle.model.proofs.Bits.{trailing, digit_zero, digit_of_zero, digit_shr, bit_yes, bit_no, bit_and, bit_or, bit_below, below_no_bit, some_bit}
+use Rattle.model.proofs.Bits.{trailing, digit_zero, digit_of_zero, digit_shr, bit_yes, bit_no, bit_and_lem, bit_or_lem, bit_below, below_no_bit, some_bit}
 use Rattle.sets.specs.Rows.{row_bit}
 use Rattle.sets.specs.Sets.{RowPut, Meet, Join, Rest, FirstFrom, Has, NotEmpty}
 
@@ -70,11 +70,11 @@ module _ (a b : List ℕ) (v : Words a) (w : Words b) (on : ℕ → ℕ → ℕ)
   by_word_lem (suc (suc (suc zero))) p = each (get_or a 3 0) (get_or b 3 0) p
   by_word_lem (suc (suc (suc (suc q)))) p = bit_of_zero p ∙ sym (rw (no_word v q, no_word w q, bit_of_zero p) none)
 
-pub meet_words : (a b : List ℕ) (v : Words a) (w : Words b) → Meet a b (by_word a b v w bit_and ◌&&◌ bit_and refl)
-meet_words a b v w = record { bits = λ m. by_word_lem a b v w bit_and ◌&&◌ bit_and refl (m / 64) (m % 64) }
+pub meet_words : (a b : List ℕ) (v : Words a) (w : Words b) → Meet a b (by_word a b v w bit_and ◌&&◌ bit_and_lem refl)
+meet_words a b v w = record { bits = λ m. by_word_lem a b v w bit_and ◌&&◌ bit_and_lem refl (m / 64) (m % 64) }
 
-pub join_words : (a b : List ℕ) (v : Words a) (w : Words b) → Join a b (by_word a b v w bit_or ◌||◌ bit_or refl)
-join_words a b v w = record { bits = λ m. by_word_lem a b v w bit_or ◌||◌ bit_or refl (m / 64) (m % 64) }
+pub join_words : (a b : List ℕ) (v : Words a) (w : Words b) → Join a b (by_word a b v w bit_or ◌||◌ bit_or_lem refl)
+join_words a b v w = record { bits = λ m. by_word_lem a b v w bit_or ◌||◌ bit_or_lem refl (m / 64) (m % 64) }
 
 -- `set[m / 64] >> (m % 64)`
 pub rest_word : (set : List ℕ) (m : ℕ) → Words set → Rest set m (get_or set (m / 64) 0 / 2 ^ (m % 64))

@@ -17,7 +17,7 @@ use Rattle.model.specs.Policies.{OnSide, Admits, known, clique}
 use Rattle.model.specs.Scheme.{lowest}
 use Rattle.model.specs.SchemeBytes.{strangers, side_of, scheme_of, at3, MaskFits, StrangersApart}
 use Rattle.model.proofs.Sets.{none_in_zero}
-use Rattle.model.proofs.Bits.{bit_and, bit_or, bit_below, lowest_in}
+use Rattle.model.proofs.Bits.{bit_and_lem, bit_or_lem, bit_below, lowest_in}
 use Rattle.model.proofs.Cliques.{mutual_friends}
 use Rattle.model.proofs.Counting.{count_above}
 use Rattle.model.proofs.Deciding.{Says, says, is_so, iff, conj, disj}
@@ -113,8 +113,8 @@ module _ (b sides : List ℕ) (p : ℕ) (lower : SidesBelow b sides p) (n u v si
   rule_says (Known k) f = neither_says side (no_shared n u v (sided side u v least most h) k f)
   rule_says (CliqueRule k) f = neither_says side (no_clique n u v (sided side u v least most h) k)
   rule_says (State states wanted) f = in_state (bit states 0) wanted f
-  rule_says (Both left right) f = rw (bit_and (get_or sides left 0) (get_or sides right 0) side) (conj (operand left f.0) (operand right f.1))
-  rule_says (Either left right) f = rw (bit_or (get_or sides left 0) (get_or sides right 0) side) (disj (operand left f.0) (operand right f.1))
+  rule_says (Both left right) f = rw (bit_and_lem (get_or sides left 0) (get_or sides right 0) side) (conj (operand left f.0) (operand right f.1))
+  rule_says (Either left right) f = rw (bit_or_lem (get_or sides left 0) (get_or sides right 0) side) (disj (operand left f.0) (operand right f.1))
 
 -- the answer for a rule has its sides
 pub answered : (b sides : List ℕ) (p : ℕ) (rule : Rule) → RuleFits p rule → SidesBelow b sides p → SidesOf (answer sides rule) (policy_of_rule (scheme_of b).policy rule)

@@ -11,7 +11,7 @@ use borrow.Author.Count.{below_more}
 use lib.Bits.{bit_and, bit_or, and_le_l}
 use lib.Pow.{pow_pos, pow_mono}
 use Rattle.model.specs.Bytes.{byte, digit, bit}
-use Rattle.model.proofs.Bits.{digit_above, digit_zero, digit_shr, digit_suc, digit_and, digit_or, digit_lt, digit_of_zero, bit_yes, yes_bit, bit_and, bit_or, set_same, set_other, shl_one, below_no_bit, set_ext}
+use Rattle.model.proofs.Bits.{digit_above, digit_zero, digit_shr, digit_suc, digit_and, digit_or, digit_lt, digit_of_zero, bit_yes, yes_bit, bit_and_lem, bit_or_lem, set_same, set_other, shl_one, below_no_bit, set_ext}
 use Rattle.model.proofs.Deciding.{Says, iff}
 use Rattle.network.proofs.Reading.{stride_next}
 use Rattle.validity.specs.Chosen.{Chosen}
@@ -46,7 +46,7 @@ subset_has set mask p e h = bit_yes mask p (omega (arith, digit_and set mask p, 
 
 pub has_subset : (set mask : ℕ) → set < 2 ^ 32 → ((p : ℕ) → bit set p ≡ true → bit mask p ≡ true) → bit_and set mask ≡ set
 has_subset set mask small h =
-    set_ext 32 (bit_and set mask) set (below_no_bit 32 (bit_and set mask) (omega (arith, and_le_l set mask))) (below_no_bit 32 set small) (λ p l. bit_and set mask p ∙ both (bit set p) (bit mask p) (h p))
+    set_ext 32 (bit_and set mask) set (below_no_bit 32 (bit_and set mask) (omega (arith, and_le_l set mask))) (below_no_bit 32 set small) (λ p l. bit_and_lem set mask p ∙ both (bit set p) (bit mask p) (h p))
   where
     both : (x y : Bool) → (x ≡ true → y ≡ true) → (x && y) ≡ x
     both true y f = f refl
@@ -103,8 +103,8 @@ collected_two {m = m} e b f d g =
 
 pub collected : {s : List ℕ} {at stride m one other : ℕ} → Collected s at stride m one other → Chosen s at stride m (bit_or one other)
 collected {s} {at} {stride} {m} {one} {other} g = record {
-  has = λ j l. bit_or one other (byte s (at + j * stride)) ∙ or_is (bit one (byte s (at + j * stride))) (bit other (byte s (at + j * stride))) (g.has j l);
-  only = λ p h. g.only p (is_or (bit one p) (bit other p) (sym (bit_or one other p) ∙ h));
+  has = λ j l. bit_or_lem one other (byte s (at + j * stride)) ∙ or_is (bit one (byte s (at + j * stride))) (bit other (byte s (at + j * stride))) (g.has j l);
+  only = λ p h. g.only p (is_or (bit one p) (bit other p) (sym (bit_or_lem one other p) ∙ h));
 }
   where
     or_is : (x y : Bool) → (x ≡ true) ⊎ (y ≡ true) → (x || y) ≡ true
