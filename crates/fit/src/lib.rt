@@ -1,7 +1,7 @@
 // The bytes inside a scheme's records (document 01, "Scheme", "Policies"; refusal 3 of the scheme check).
 ghost use Rattle.std.specs.Prelude.{◌≡◌, ◌↔◌, ℕ, ◌+◌, ◌*◌, ◌%◌, ◌<◌, ◌≤◌, length};
 ghost use Rattle.model.specs.Decides.{Decides};
-ghost use Rattle.model.specs.Bytes.{byte, four as fourAt, NoBitFrom};
+ghost use Rattle.model.specs.Bytes.{byte, four as four_at, NoBitFrom};
 ghost use Rattle.model.specs.SchemeBytes.{Records, BytesFit, PolicyFits, MaskFits};
 ghost use Rattle.tables.specs.Read.{CountsOf, InRange};
 
@@ -81,7 +81,7 @@ fn policies_fit(s: &[u8], at: usize, count: usize, states: usize) -> bool
 // Whether each resource's mask is not zero and has no bit at or above the number of policies.
 fn masks_fit(s: &[u8], at: usize, count: usize, policies: usize) -> bool
     requires { (at + count * 4 ≤ length s.now) × (count ≤ 26) × (policies ≤ 32) }
-    ensures { Decides result ((k : ℕ) → k < count → MaskFits policies (fourAt s.now (at + k * 4))) }
+    ensures { Decides result ((k : ℕ) → k < count → MaskFits policies (four_at s.now (at + k * 4))) }
 {
     let mut all: u32 = 0;
     let mut r: usize = 0;

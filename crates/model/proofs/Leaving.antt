@@ -84,7 +84,7 @@ module _ (b net : List ℕ) (q : Request) (out : List ℕ) where
 
   -- and so does one that is no list
   pub plain_left : {k n : ℕ} {o after : List ℕ} → ((v u places : ℕ) → q ≡ list v u places → ⊥) → Left b net q out k n o after → (n ≡ 0) × (o ≡ out)
-  plain_left {k} plain l = nothing_written l.front (l.called.wrote ∙ none_granted k (λ z. lists_alone _ _ q plain))
+  plain_left {k} plain l = nothing_written l.front (l.called.wrote ∙ none_granted k (λ z. lists_alone (scheme_of b) (held (scheme_of b) net) q plain))
 
 -- one length, whether or not the scheme is accepted
 pub length_once : (b : List ℕ) (r r' : ℕ) → LengthOf b r → LengthOf b r' → r ≡ r'

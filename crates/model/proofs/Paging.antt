@@ -129,13 +129,13 @@ module _ {Before : ℕ → ℕ → Type 0} (s : Strict Before) where
   -- a page of c places is the front of one with a place more
   cut : {P : ℕ → Type 0} (c : ℕ) (l : List ℕ) → FirstOf Before P (suc c) l → FirstOf Before P c (take c l)
   cut {P} zero l f = empty P
-  cut (suc c) [] f = record {
+  cut {P} (suc c) [] f = record {
     ordered = tt;
     suit = tt;
     fits = zero-le;
     left_out = λ m p n. let (e, h) = f.left_out m p n in absurd (omega arith);
   }
-  cut (suc c) (x ∷ l) f = in_front f.suit.0 (first_is f) (cut c l (behind_first f))
+  cut {P} (suc c) (x ∷ l) f = in_front f.suit.0 (first_is f) (cut {P = λ m. P m × Before x m} c l (behind_first f))
 
   -- k enters between those that stand before it and those that it stands before; what is beyond c places is dropped
   pub enters : {P Q : ℕ → Type 0} (k : ℕ) → Q k → ((m : ℕ) → P m → Q m) → ((m : ℕ) → Q m → (m ≡ k) ⊎ P m)
@@ -165,7 +165,7 @@ module _ {Before : ℕ → ℕ → Type 0} (s : Strict Before) where
       old m h (inr p) = p
   enters {P} {Q} k qk to from (suc c) (x ∷ a) b (h, ha) hb f =
       in_front (to x f.suit.0) (λ m q. later m (from m q))
-      (enters k (qk, h) (λ m (p, g). (to m p, g)) (λ m (q, g). new m g (from m q)) c a b ha hb (behind_first f))
+      (enters {P = λ m. P m × Before x m} {Q = λ m. Q m × Before x m} k (qk, h) (λ m (p, g). (to m p, g)) (λ m (q, g). new m g (from m q)) c a b ha hb (behind_first f))
     where
       later : (m : ℕ) → (m ≡ k) ⊎ P m → (m ≡ x) ⊎ Before x m
       later m (inl e) = inr (rw e h)
@@ -184,7 +184,7 @@ module _ {Before : ℕ → ℕ → Type 0} (s : Strict Before) where
   page_unique {P} (suc c) (x ∷ l) (y ∷ r) f g =
       let e : y ≡ x = same (first_is f y g.suit.0) (first_is g x f.suit.0) in
       let h : FirstOf Before (λ m. P m × Before x m) c r = rw (← e) (behind_first g) in
-      cc (page_unique c l r (behind_first f) h)
+      cc (page_unique {P = λ m. P m × Before x m} c l r (behind_first f) h)
     where
       same : (y ≡ x) ⊎ Before x y → (x ≡ y) ⊎ Before y x → y ≡ x
       same (inl e) q = e

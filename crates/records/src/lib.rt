@@ -1,7 +1,7 @@
 // Numbers and records in bytes (document 01, "Scheme").
 ghost use Rattle.std.specs.Prelude.{◌≡◌, ℕ, ◌+◌, ◌%◌, ◌^◌, ◌<◌, ◌≤◌, min, ◌↔◌, length};
 ghost use Rattle.model.specs.Decides.{Decides};
-ghost use Rattle.model.specs.Bytes.{byte, two as twoAt, four as fourAt, RecordAt};
+ghost use Rattle.model.specs.Bytes.{byte, two as two_at, four as four_at, RecordAt};
 
 // A byte as an index.
 pub fn wide(b: u8) -> usize
@@ -40,7 +40,7 @@ pub fn greatest(s: &[u8], from: usize, count: usize, raise: u8) -> u8
 // The 2-byte number at a place.
 pub fn two(s: &[u8], at: usize) -> usize
     requires { at + 1 < length s.now }
-    ensures { (result ≡ twoAt s.now at) × (result < 65536) }
+    ensures { (result ≡ two_at s.now at) × (result < 65536) }
 {
     wide(s[at]) + 256 * wide(s[at + 1])
 }
@@ -48,7 +48,7 @@ pub fn two(s: &[u8], at: usize) -> usize
 // The 4-byte number at a place.
 pub fn four(s: &[u8], at: usize) -> u32
     requires { at + 3 < length s.now }
-    ensures { result ≡ fourAt s.now at }
+    ensures { result ≡ four_at s.now at }
 {
     (two(s, at) + 65536 * two(s, at + 2)) as u32
 }
