@@ -1,4 +1,7 @@
 // How far off a member is: what its mark says (document 01, "Policies", kind 3; document 02, 2026-01).
+
+#![tactic(auto)]
+
 ghost use Rattle.std.specs.Prelude.{◌≡◌};
 ghost use Rattle.model.specs.Decides.{Decides};
 ghost use Rattle.distance_mark.specs.Mark.{distance_at, AtMost};

@@ -1,4 +1,7 @@
 // Pages of members: those of greatest rank first (document 02, 2026-02).
+
+#![tactic(auto)]
+
 ghost use Rattle.std.specs.Prelude.{◌≡◌, ◌<◌, ◌≤◌, length};
 ghost use Rattle.model.proofs.Suggesting.{earlier};
 ghost use Rattle.page.specs.Pages.{rank_of, Enterable, Entered, Readable, LastRank, Filled};

@@ -1,4 +1,7 @@
 // Numbers and records in bytes (document 01, "Scheme").
+
+#![tactic(auto)]
+
 ghost use Rattle.std.specs.Prelude.{◌≡◌, ℕ, ◌+◌, ◌%◌, ◌^◌, ◌<◌, ◌≤◌, min, ◌↔◌, length};
 ghost use Rattle.model.specs.Decides.{Decides};
 ghost use Rattle.model.specs.Bytes.{byte, two as two_at, four as four_at, RecordAt};

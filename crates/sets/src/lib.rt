@@ -1,4 +1,7 @@
 // Sets of members as 256 bits in four words, and a table of one for each member.
+
+#![tactic(auto)]
+
 ghost use Rattle.std.specs.Prelude.{◌≡◌, ◌&&◌, ◌<◌, ◌≤◌, length};
 ghost use Rattle.model.specs.Bytes.{bit};
 ghost use Rattle.model.specs.Graph.{count};

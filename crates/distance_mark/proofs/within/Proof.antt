@@ -3,20 +3,20 @@ use borrow.Author.Rules.{rules}
 use Rattle.distance_mark.proofs.within.Statement.{statement}
 use Rattle.distance_mark.proofs.within.Tie as tie
 
-enum-known-distance : tie.Need-enum-known-distance
+enum-known-distance : tie.Need-enum_known-distance
 enum-known-distance c = search rules
 
-cast-result : tie.Need-overflow-cast-result
+cast-result : tie.Need-overflow_cast-result
 cast-result c = search rules
 
-enum_told : tie.Need-enum-told
+enum_told : tie.Need-enum_told-1
 enum_told c = search rules
 
-returns : tie.Need-returns
-returns c = at_most _ c.before.distance.given.1
+returns : tie.Need-returns-in-Friendships
+returns c = at_most _ c.in-Friendships.is
 
-returns-2 : tie.Need-returns-2
-returns-2 c = above_limit _ c.enum_told.given.1
+returns-2 : tie.Need-returns-in-AboveLimit
+returns-2 c = above_limit _ c.in-AboveLimit.is
 
-pub within-spec : {M : Type 1} → statement M
-within-spec = tie.close (tie.spec enum-known-distance cast-result enum_told returns returns-2)
+pub within_spec : {M : Type 1} → statement M
+within_spec = tie.close (tie.spec enum-known-distance cast-result enum_told returns returns-2)

@@ -14,5 +14,5 @@ returns c =
     let e = ones_common x y c.ranges.x.fits c.ranges.y.fits in
     (e, omega (arith, e, count_le (λ (m : ℕ). bit x m && bit y m) 64))
 
-pub common-spec : {M : Type 1} → statement M
-common-spec = tie.close (tie.spec returns)
+pub common_spec : {M : Type 1} → statement M
+common_spec = tie.close (tie.spec returns)

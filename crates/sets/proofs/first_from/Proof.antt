@@ -7,48 +7,48 @@ use Rattle.sets.proofs.Words.{Searched, next_word, first_here, first_none}
 use Rattle.sets.proofs.first_from.Statement.{statement}
 use Rattle.sets.proofs.first_from.Tie as tie
 
-abbrev invariant-loop : tie.invariant-loop
+abbrev invariant-loop : tie.invariant-loop-m
 invariant-loop set from m₀ m = Searched set from m
 
-abbrev decreases-loop : tie.decreases-loop
+abbrev decreases-loop : tie.decreases-loop-m
 decreases-loop set from m₀ m = 256 - m
 
-loop-holds : tie.Need-loop-init invariant-loop decreases-loop
+loop-holds : tie.Need-loop-m-init invariant-loop decreases-loop
 loop-holds c = record { on = omega arith; none = λ k a b. absurd (omega arith) }
 
-rest-requires : tie.Need-rest-requires invariant-loop decreases-loop
+rest-requires : tie.Need-rest-word-requires invariant-loop decreases-loop
 rest-requires c κs = search rules
 
 -- the word is not 0
-here : (c : tie.Then1 invariant-loop decreases-loop) → (count_trailing_zeros 64 c.before.rest.result < 64) × FirstFrom c.before.before.before.before.args.set c.before.before.before.before.args.from (c.before.before.before.loop.m + count_trailing_zeros 64 c.before.rest.result)
-here c = first_here c.before.before.before.loop.invariant c.before.rest.ensures (omega arith) c.if1.true c.before.rest.type-inv
+here : (c : tie.Then-word-ne0 invariant-loop decreases-loop) → (count_trailing_zeros 64 c.rest-word.result < 64) × FirstFrom c.args.set c.args.from (c.loop-m.m + count_trailing_zeros 64 c.rest-word.result)
+here c = first_here c.loop-m.invariant c.rest-word.ensures (omega arith) c.if-word-ne0.true c.rest-word.type_inv
 
-cast-result : tie.Need-overflow-cast-result invariant-loop decreases-loop
+cast-result : tie.Need-overflow_cast-result invariant-loop decreases-loop
 cast-result c = omega (arith, here c)
 
-add-result : tie.Need-overflow-add-result invariant-loop decreases-loop
+add-result : tie.Need-overflow_add-result invariant-loop decreases-loop
 add-result c = omega (arith, here c)
 
-returns : tie.Need-returns invariant-loop decreases-loop
+returns : tie.Need-returns-then-word-ne0 invariant-loop decreases-loop
 returns c = (here c).1
 
-mul-m : tie.Need-overflow-mul-m invariant-loop decreases-loop
+mul-m : tie.Need-overflow_mul-m invariant-loop decreases-loop
 mul-m c = search rules
 
-add-m : tie.Need-overflow-add-m invariant-loop decreases-loop
+add-m : tie.Need-overflow_add-m invariant-loop decreases-loop
 add-m c = search rules
 
-loop-less : tie.Need-loop-smaller invariant-loop decreases-loop
+loop-less : tie.Need-loop-m-smaller invariant-loop decreases-loop
 loop-less c = omega arith
 
-loop-again : tie.Need-loop-preserved invariant-loop decreases-loop
-loop-again c = next_word c.before.before.before.loop.invariant c.before.rest.ensures c.if1.false
+loop-again : tie.Need-loop-m-preserved invariant-loop decreases-loop
+loop-again c = next_word c.loop-m.invariant c.rest-word.ensures c.if-word-ne0.false
 
-returns-2 : tie.Need-returns-2 invariant-loop decreases-loop
-returns-2 c = first_none c.before.loop.invariant c.loop-test.false
+returns-2 : tie.Need-returns invariant-loop decreases-loop
+returns-2 c = first_none c.loop-m.invariant c.loop-m-test.false
 
-pub first-from-spec : {M : Type 1} → statement M
-first-from-spec =
+pub first_from_spec : {M : Type 1} → statement M
+first_from_spec =
     tie.close
     (tie.spec
     invariant-loop

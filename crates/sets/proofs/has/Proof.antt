@@ -7,7 +7,7 @@ rest-requires : tie.Need-rest-requires
 rest-requires c κs = search rules
 
 returns : tie.Need-returns
-returns c = rest_has c.before.args.set c.before.args.m c.rest.result c.rest.ensures
+returns c = rest_has c.args.set c.args.m c.rest.result c.rest.ensures
 
-pub has-spec : {M : Type 1} → statement M
-has-spec = tie.close (tie.spec rest-requires returns)
+pub has_spec : {M : Type 1} → statement M
+has_spec = tie.close (tie.spec rest-requires returns)

@@ -3,35 +3,35 @@ use borrow.Author.Rules.{rules}
 use Rattle.sets.proofs.join.Statement.{statement}
 use Rattle.sets.proofs.join.Tie as tie
 
-array-read-t7 : tie.Need-array-read-t7
+array-read-t7 : tie.Need-bounds-a-0
 array-read-t7 c = search rules
 
-array-read-t10 : tie.Need-array-read-t10
+array-read-t10 : tie.Need-bounds-b-0
 array-read-t10 c = search rules
 
-array-read-t14 : tie.Need-array-read-t14
+array-read-t14 : tie.Need-bounds-a-1
 array-read-t14 c = search rules
 
-array-read-t17 : tie.Need-array-read-t17
+array-read-t17 : tie.Need-bounds-b-1
 array-read-t17 c = search rules
 
-array-read-t21 : tie.Need-array-read-t21
+array-read-t21 : tie.Need-bounds-a-2
 array-read-t21 c = search rules
 
-array-read-t24 : tie.Need-array-read-t24
+array-read-t24 : tie.Need-bounds-b-2
 array-read-t24 c = search rules
 
-array-read-t28 : tie.Need-array-read-t28
+array-read-t28 : tie.Need-bounds-a-3
 array-read-t28 c = search rules
 
-array-read-t31 : tie.Need-array-read-t31
+array-read-t31 : tie.Need-bounds-b-3
 array-read-t31 c = search rules
 
 returns : tie.Need-returns
-returns c = join_words c.args.t1 c.args.t2 (words _ c.well-formed.0) (words _ c.well-formed.1.0)
+returns c = join_words c.args.a c.args.b (words _ c.well_formed.0) (words _ c.well_formed.1.0)
 
-pub join-spec : {M : Type 1} → statement M
-join-spec =
+pub join_spec : {M : Type 1} → statement M
+join_spec =
     tie.close
     (tie.spec
     array-read-t7

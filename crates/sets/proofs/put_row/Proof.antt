@@ -5,62 +5,62 @@ use borrow.Author.Rules.{rules}
 use Rattle.sets.proofs.put_row.Statement.{statement}
 use Rattle.sets.proofs.put_row.Tie as tie
 
-mul_at : tie.Need-overflow-mul-at
+mul_at : tie.Need-overflow_mul-at
 mul_at c = search rules
 
-array-read-rows : tie.Need-array-read-rows
+array-read-rows : tie.Need-bounds-row-0
 array-read-rows c = search rules
 
-mul-rows : tie.Need-overflow-mul-rows
+mul-rows : tie.Need-offset_bounds-rows-at
 mul-rows c = search rules
 
-slice-write-rows : tie.Need-slice-write-rows
+slice-write-rows : tie.Need-bounds-rows-at
 slice-write-rows c = search rules
 
-array-read-rows-2 : tie.Need-array-read-rows-2
+array-read-rows-2 : tie.Need-bounds-row-1
 array-read-rows-2 c = search rules
 
-add-rows : tie.Need-overflow-add-rows
+add-rows : tie.Need-overflow_add-rows
 add-rows c = search rules
 
-mul-rows-2 : tie.Need-overflow-mul-rows-2
+mul-rows-2 : tie.Need-offset_bounds-rows-at-2
 mul-rows-2 c = search rules
 
-slice-write-rows-2 : tie.Need-slice-write-rows-2
+slice-write-rows-2 : tie.Need-bounds-rows-at-2
 slice-write-rows-2 c = simp length-set (omega arith)
 
-array-read-rows-3 : tie.Need-array-read-rows-3
+array-read-rows-3 : tie.Need-bounds-row-2
 array-read-rows-3 c = search rules
 
-add-rows-2 : tie.Need-overflow-add-rows-2
+add-rows-2 : tie.Need-overflow_add-rows-2
 add-rows-2 c = search rules
 
-mul-rows-3 : tie.Need-overflow-mul-rows-3
+mul-rows-3 : tie.Need-offset_bounds-rows-at-3
 mul-rows-3 c = search rules
 
-slice-write-rows-3 : tie.Need-slice-write-rows-3
+slice-write-rows-3 : tie.Need-bounds-rows-at-3
 slice-write-rows-3 c = simp length-set (omega arith)
 
-array-read-rows-4 : tie.Need-array-read-rows-4
+array-read-rows-4 : tie.Need-bounds-row-3
 array-read-rows-4 c = search rules
 
-add-rows-3 : tie.Need-overflow-add-rows-3
+add-rows-3 : tie.Need-overflow_add-rows-3
 add-rows-3 c = search rules
 
-mul-rows-4 : tie.Need-overflow-mul-rows-4
+mul-rows-4 : tie.Need-offset_bounds-rows-at-4
 mul-rows-4 c = search rules
 
-slice-write-rows-4 : tie.Need-slice-write-rows-4
+slice-write-rows-4 : tie.Need-bounds-rows-at-4
 slice-write-rows-4 c = simp length-set (omega arith)
 
-same_length : tie.Need-same-length
+same_length : tie.Need-shape_of-rows
 same_length c = search rules
 
 returns : tie.Need-returns
-returns c = put_words c.args.rows.now c.args.t3 c.args.m (words _ c.well-formed.1.1.0) (omega arith)
+returns c = put_words c.args.rows.now c.args.row c.args.m (words _ c.well_formed.1.1.0) (omega arith)
 
-pub put-row-spec : {M : Type 1} → statement M
-put-row-spec =
+pub put_row_spec : {M : Type 1} → statement M
+put_row_spec =
     tie.close
     (tie.spec
     mul_at
