@@ -7,7 +7,7 @@ use scheme::Reading;
 
 // Where the program stands: before the scheme check; at the place of a record, at its position, with a network of so many bytes; or
 // done.
-#[derive(Drop)]
+#[derive(Clone, Copy)]
 pub enum Stand {
     Start,
     At(usize, u16, usize),
@@ -15,14 +15,14 @@ pub enum Stand {
 }
 
 // Where the program stands, and how much of the buffer is used.
-#[derive(Drop)]
+#[derive(Clone, Copy)]
 pub struct Filled {
     pub stand: Stand,
     pub used: usize,
 }
 
 // How a run starts: on a fresh network of so many bytes, or not, with the number that is printed.
-#[derive(Drop)]
+#[derive(Clone, Copy)]
 pub enum Start {
     Fresh(usize),
     Refused(u8),
