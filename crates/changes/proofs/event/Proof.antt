@@ -22,8 +22,8 @@ accepted c = open_accepted _ _ _ _ c.in-Accepted.is (after_open c).open-reading.
 abbrev after-known-told : tie.Else-a-c → tie.In-Accepted
 after-known-told c = c.before.before
 
-abbrev else2 : tie.After-judge-arg → tie.Else-v-u
-else2 c = c.before.before.before
+abbrev else2 : tie.After-next_state-q → tie.Else-v-u
+else2 c = c.before
 
 open-requires : tie.Need-open-reading-requires
 open-requires c κs = search rules
@@ -73,8 +73,8 @@ same-length-4 c = search rules
 
 returns-4 : tie.Need-returns-then-refusal-ne0
 returns-4 c =
-    let j = c.before in
-    let d = else2 j.before in
+    let j = c in
+    let d = else2 c.before.before in
     event_judged_lem (accepted (after-known-told d.before)) d.if-a-c.false d.if-v-u.false j.next_state-q.ensures (omega arith) j.judge-refusal.ensures
 
 state-requires : tie.Need-state-requires
@@ -88,9 +88,9 @@ same-length-5 c = search rules
 
 returns-5 : tie.Need-returns
 returns-5 c =
-    let w = c.before.before in
-    let j = w.before.before.before in
-    let d = else2 j.before in
+    let w = c in
+    let j = c in
+    let d = else2 c.before.before.before.before.before.before in
     event_0 (accepted (after-known-told d.before)) d.if-a-c.false d.if-v-u.false j.next_state-q.ensures w.if-refusal-ne0.false j.judge-refusal.ensures w.state.ensures
 
 pub event_spec : {M : Type 1} → statement M
