@@ -1,5 +1,5 @@
 -- What a read or a write did.
-use Rattle.std.specs.Prelude.{ℕ, ◌≤◌}
+use Rattle.std.specs.Prelude.{ℕ, ◌≤◌, ◌≡◌, List, length, take}
 use Rattle.files.specs.declared.Transfer.{Transfer}
 use Rattle.files.specs.declared.Transfer.TheVariants.{Moved, Ended, Interrupted, Failed}
 
@@ -9,3 +9,7 @@ Within (Moved count) most = (1 ≤ count) × (count ≤ most)
 Within Ended most = Unit {0}
 Within Interrupted most = Unit {0}
 Within Failed most = Unit {0}
+
+-- a list has so many bytes, and its first so many are that many: the second follows from the first and spares a caller a proof
+abbrev pub IsPrefixLen : ℕ → List ℕ → Type 0
+IsPrefixLen n bytes = (n ≤ length bytes) × (n ≡ length (take n bytes))

@@ -1,7 +1,14 @@
 // Files, read and written whole: a call that a signal interrupts is made again, and no other failure is passed over.
+
+#![tactic(auto)]
+
 ghost use Rattle.std.specs.Prelude.{◌≡◌, ◌-◌, ◌≤◌, length};
-ghost use Rattle.io.specs.Counts.{IsPrefixLen};
-ghost use Rattle.files.specs.Transfers.{Within};
+ghost use Rattle.files.specs.Transfers.{Within, IsPrefixLen};
+
+use std::fs::File;
+use std::io::{ErrorKind, Read, Write};
+use std::rt::Files;
+use std::{io, str};
 
 // What a read or a write did: it moved so many bytes, one at the least; it moved none; it was interrupted first; or it failed.
 #[derive(Drop)]
@@ -13,34 +20,38 @@ pub enum Transfer {
 }
 
 // What a read or a write over these bytes did, by what it answered.
-fn told(got: isize, bytes: &[u8]) -> Transfer
+fn told(got: io::Result<usize>, bytes: &[u8]) -> Transfer
     ensures { Within result (length bytes.now) }
 {
-    let count = io::count(got, bytes);
-    if count != 0 {
-        return Transfer::Moved(count);
+    match got {
+        Ok(count) => {
+            let moved = count.min(bytes.len());
+            if moved == 0 {
+                return Transfer::Ended;
+            }
+            Transfer::Moved(moved)
+        }
+        Err(error) => {
+            if error.kind() == ErrorKind::Interrupted {
+                return Transfer::Interrupted;
+            }
+            Transfer::Failed
+        }
     }
-    if got == 0 {
-        return Transfer::Ended;
-    }
-    if os::errno() == libc::EINTR {
-        return Transfer::Interrupted;
-    }
-    Transfer::Failed
 }
 
 // One read to the buffer from a place on.
-fn read_part(file: i32, buffer: &mut [u8], from: usize) -> Transfer
+fn read_part<R: Read>(file: &mut R, buffer: &mut [u8], from: usize) -> Transfer
     requires { from ≤ length buffer.old }
     ensures { Within result (length buffer.old - from) }
 {
     let space = &mut buffer[from..];
-    let got = libc::read(file, space);
+    let got = file.read(space);
     told(got, space)
 }
 
 // Reads to the end, or until the buffer is full; 0 where a read fails, or a thousand were interrupted.
-fn read_all(file: i32, buffer: &mut [u8]) -> usize
+fn read_all<R: Read>(file: &mut R, buffer: &mut [u8]) -> usize
     ensures { IsPrefixLen result buffer.new }
 {
     let mut done: usize = 0;
@@ -60,32 +71,32 @@ fn read_all(file: i32, buffer: &mut [u8]) -> usize
     0
 }
 
-// A file's bytes to the front of the buffer, as many as it holds; how many. A file that cannot be opened, or of which a read
-// fails, is empty.
-pub fn read(path: &[u8], buffer: &mut [u8]) -> usize
+// A file's bytes to the front of the buffer, as many as it holds; how many. A file that cannot be opened, also since its name is
+// no UTF-8 text, or of which a read fails, is empty.
+pub fn read<R: Files>(rt: &R, path: &[u8], buffer: &mut [u8]) -> usize
     ensures { IsPrefixLen result buffer.new }
 {
-    let file = os::open_read(path);
-    if file < 0 {
+    let Ok(name) = str::from_utf8(path) else {
         return 0;
-    }
-    let count = read_all(file, buffer);
-    libc::close(file);
-    count
+    };
+    let Ok(mut file) = File::open(rt, name) else {
+        return 0;
+    };
+    read_all(&mut file, buffer)
 }
 
 // One write of the bytes from a place on.
-fn write_part(file: i32, bytes: &[u8], from: usize) -> Transfer
+fn write_part<W: Write>(file: &mut W, bytes: &[u8], from: usize) -> Transfer
     requires { from ≤ length bytes.now }
     ensures { Within result (length bytes.now - from) }
 {
     let rest = &bytes[from..];
-    told(libc::write(file, rest), rest)
+    told(file.write(rest), rest)
 }
 
 // All of the bytes, in one write where the system takes them so; false where a write fails, or a thousand were interrupted:
 // none is made after that.
-pub fn write(file: i32, bytes: &[u8]) -> bool {
+pub fn write<W: Write>(file: &mut W, bytes: &[u8]) -> bool {
     let mut done: usize = 0;
     let mut interrupted: usize = 0;
     while interrupted < 1000 {

@@ -1,0 +1,8 @@
+use Rattle.std.proofs.Common.{◌-◌, ◌≤◌, length, ◌+◌}
+use Rattle.files.proofs.write.Given as goal
+
+abbrev pub invariant-loop-interrupted : goal.invariant-loop-interrupted
+invariant-loop-interrupted g l = (l.done ≤ length l.bytes) × (l.interrupted ≤ 1000)
+
+abbrev pub decreases-loop-interrupted : goal.decreases-loop-interrupted
+decreases-loop-interrupted g l = (length l.bytes - l.done) + (1000 - l.interrupted)
