@@ -1,4 +1,7 @@
 // Cliques (document 01, "Policies", kind 5).
+
+#![tactic(auto)]
+
 ghost use Rattle.std.specs.Prelude.{◌≡◌, true, ℕ, ◌+◌, ◌<◌, length};
 ghost use Rattle.model.specs.Bytes.{bit};
 ghost use Rattle.clique.specs.Mutual.{TellsEach, CliqueSize, RowsJoined, FriendsOf};

@@ -1,4 +1,7 @@
 // The bytes inside a scheme's records (document 01, "Scheme", "Policies"; refusal 3 of the scheme check).
+
+#![tactic(auto)]
+
 ghost use Rattle.std.specs.Prelude.{◌≡◌, ◌↔◌, ℕ, ◌+◌, ◌*◌, ◌%◌, ◌<◌, ◌≤◌, length};
 ghost use Rattle.model.specs.Decides.{Decides};
 ghost use Rattle.model.specs.Bytes.{byte, four as four_at, NoBitFrom};

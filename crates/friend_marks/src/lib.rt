@@ -1,4 +1,7 @@
 // The states that make friends (document 01, "Scheme", kind 3).
+
+#![tactic(auto)]
+
 ghost use Rattle.tables.specs.Read.{ReadAs, MarksOf};
 
 use tables::Summary;

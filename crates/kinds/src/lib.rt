@@ -1,4 +1,7 @@
 // The five kinds of request, with their numbers (document 01, "The calls").
+
+#![tactic(auto)]
+
 #[derive(Drop)]
 pub enum Request {
     // v uses primitive a towards u

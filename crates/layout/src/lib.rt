@@ -1,4 +1,7 @@
 // The counts and the records of a scheme (document 01, "Scheme"; refusals 1 and 2 of the scheme check).
+
+#![tactic(auto)]
+
 ghost use Rattle.std.specs.Prelude.{◌≤◌, length};
 ghost use Rattle.model.specs.Decides.{Decides};
 ghost use Rattle.model.specs.SchemeBytes.{Records};

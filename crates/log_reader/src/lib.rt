@@ -1,8 +1,8 @@
 // The log reader (document 01, "Next log record").
 ghost use Rattle.std.specs.Prelude.{◌≡◌};
-ghost use Rattle.log.specs.Read.{Read};
+ghost use Rattle.log_records.specs.Read.{Read};
 
-use log::{Answer, Step};
+use log_records::{Answer, Step};
 
 // The log reader: it stands over the lent log, at a place.
 #[derive(Drop)]
@@ -22,7 +22,7 @@ pub fn open<'a>(log: &'a [u8], place: usize) -> Reader<'a>
 pub fn next<'s, 'a>(reader: &'s mut Reader<'a>) -> Answer
     ensures { (reader.new.log ≡ reader.old.log) × Read reader.old.log.now reader.old.place result reader.new.place }
 {
-    let step = log::read(reader.log, reader.place);
+    let step = log_records::read(reader.log, reader.place);
     reader.place = step.place;
     step.answer
 }

@@ -6,9 +6,9 @@ use lib.ListN.{length}
 use Rattle.model.specs.Calls.{Left}
 use Rattle.kinds.specs.Kinds.{request_of}
 use Rattle.kinds.specs.declared.Request.{Request as Asked}
-use Rattle.log.specs.Read.{SaidAt, Read}
-use Rattle.log.specs.declared.Answer.{Answer}
-use Rattle.log.specs.declared.Answer.TheVariants.{Asks, Refused, Ended}
+use Rattle.log_records.specs.Read.{SaidAt, Read}
+use Rattle.log_records.specs.declared.Answer.{Answer}
+use Rattle.log_records.specs.declared.Answer.TheVariants.{Asks, Refused, Ended}
 use Rattle.record_call.specs.Lined.{Lined}
 use Rattle.record_call.specs.declared.Line.{Line}
 use Rattle.record_call.specs.declared.Line.TheVariants.{Next, Last, End}

@@ -3,7 +3,7 @@ ghost use Rattle.std.specs.Prelude.{◌≡◌};
 ghost use Rattle.record_call.specs.Lined.{Lined};
 
 use calls::Reply;
-use log::Answer;
+use log_records::Answer;
 
 // The line of a record: an answer, how many friends were listed, and the next record's place; a 14; or none.
 #[derive(Drop)]

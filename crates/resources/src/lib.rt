@@ -1,4 +1,7 @@
 // What a resource number names (document 01, "Scheme").
+
+#![tactic(auto)]
+
 ghost use Rattle.std.specs.Prelude.{◌+◌, ◌<◌};
 ghost use Rattle.model.specs.Decides.{Decides};
 ghost use Rattle.tables.specs.Read.{InRange};

@@ -1,4 +1,7 @@
 // Policies as a scheme's tables hold them (document 01, "Policies").
+
+#![tactic(auto)]
+
 ghost use Rattle.std.specs.Prelude.{◌≡◌, ◌<◌};
 ghost use Rattle.model.specs.SchemeBytes.{scheme_of};
 ghost use Rattle.tables.specs.Read.{ReadAs};

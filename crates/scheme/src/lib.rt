@@ -1,4 +1,7 @@
 // The scheme check (document 01, "Scheme", "Scheme check").
+
+#![tactic(auto)]
+
 ghost use Rattle.std.specs.Prelude.{◌≡◌};
 ghost use Rattle.tables.specs.Read.{CountsOf, ReadAs, MarksOf};
 ghost use Rattle.scheme.specs.Checked.{Checked, number_of};

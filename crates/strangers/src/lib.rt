@@ -1,4 +1,7 @@
 // What strangers may do under a fresh network (document 01, "Scheme check", refusal 4).
+
+#![tactic(auto)]
+
 ghost use Rattle.std.specs.Prelude.{◌≡◌, ◌<◌, ◌≤◌, length};
 ghost use Rattle.model.specs.Decides.{Decides};
 ghost use Rattle.model.specs.SchemeBytes.{scheme_of, StrangersApart};

@@ -1,4 +1,7 @@
 // Reads of a scheme's tables (document 01, "Scheme").
+
+#![tactic(auto)]
+
 ghost use Rattle.std.specs.Prelude.{◌≡◌, List, ℕ, ◌+◌, ◌<◌, ◌≤◌};
 ghost use Rattle.model.specs.Bytes.{bit};
 ghost use Rattle.model.specs.Scheme.{lowest as lowestOf};
@@ -6,7 +9,7 @@ ghost use Rattle.model.specs.SchemeBytes.{at3, at4, at5, scheme_of};
 ghost use Rattle.tables.specs.Read.{CountsOf, InRange, ReadAs};
 
 // What is read once of a scheme: the five counts of its head record, and the states that make friends, as a set.
-#[derive(Drop)]
+#[derive(Clone, Copy)]
 pub struct Summary {
     pub members: usize,
     pub states: usize,

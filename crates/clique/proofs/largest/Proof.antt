@@ -10,58 +10,58 @@ use Rattle.clique.proofs.largest.Statement.{statement}
 use Rattle.clique.proofs.largest.Tie as tie
 
 -- u and v are friends
-friends : (c : tie.After-meet) (j : ℕ) → j ≤ 3 → TellsEach c.before.before.before.before.before.before.args.rows.now c.meet.result 0 j true
-    → (j < 3 → TellsEach c.before.before.before.before.before.before.args.rows.now c.meet.result 0 (suc j) false)
-    → CliqueSize c.before.before.before.before.before.before.args.rows.now c.before.before.before.before.before.before.args.u c.before.before.before.before.before.before.args.v (2 + j)
+friends : (c : tie.After-meet-common) (j : ℕ) → j ≤ 3 → TellsEach c.args.rows.now c.meet-common.result 0 j true
+    → (j < 3 → TellsEach c.args.rows.now c.meet-common.result 0 (suc j) false)
+    → CliqueSize c.args.rows.now c.args.u c.args.v (2 + j)
 friends c j few =
-    let a = c.before.before.before.before.before.before.args in
-    let u = c.before.before.before.before.row.ensures in
-    friends_with a.rows.now c.meet.result a.u a.v j (sym (rw u at c.before.before.before.has.ensures) ∙ not-false _ c.before.before.if1.false)
-    (rw (u, c.before.row2.ensures) at c.meet.ensures) few
+    let a = c.args in
+    let u = c.row-of_u.ensures in
+    friends_with a.rows.now c.meet-common.result a.u a.v j (sym (rw u at c.has.ensures) ∙ not-false _ c.if-not-has.false-raw)
+    (rw (u, c.row.ensures) at c.meet-common.ensures) few
 
-one : (c : tie.After-not-empty) → TellsEach c.before.before.before.before.before.before.before.args.rows.now c.before.meet.result 0 1 c.not-empty.result
-one c = some_member c.not-empty.ensures c.before.before.before.before.before.before.before.args.rows.now 0
+one : (c : tie.After-not_empty) → TellsEach c.args.rows.now c.meet-common.result 0 1 c.not_empty.result
+one c = some_member c.not_empty.ensures c.args.rows.now 0
 
-row-requires : tie.Need-row-requires
+row-requires : tie.Need-row-of_u-requires
 row-requires c κs = search rules
 
 has-requires : tie.Need-has-requires
 has-requires c κs = search rules
 
-returns : tie.Need-returns
+returns : tie.Need-returns-then-not-has
 returns c =
-    let a = c.before.before.before.before.args in
-    no_friends a.rows.now a.u a.v (sym (rw c.before.before.row.ensures at c.before.has.ensures) ∙ not-true _ c.if1.true)
+    let a = c.args in
+    no_friends a.rows.now a.u a.v (sym (rw c.row-of_u.ensures at c.has.ensures) ∙ not-true _ c.if-not-has.true-raw)
 
-row-requires-2 : tie.Need-row-requires-2
+row-requires-2 : tie.Need-row-requires
 row-requires-2 c κs = search rules
 
-meet-requires : tie.Need-meet-requires
+meet-requires : tie.Need-meet-common-requires
 meet-requires c κs = search rules
 
-not-empty-requires : tie.Need-not-empty-requires
+not-empty-requires : tie.Need-not_empty-requires
 not-empty-requires c κs = search rules
 
-returns-2 : tie.Need-returns-2
-returns-2 c = friends c.before.before 0 (omega arith) none_asked (λ l. tells_no (one c.before) c.if2.true)
+returns-2 : tie.Need-returns-then-not-not_empty
+returns-2 c = friends c.before.before 0 (omega arith) none_asked (λ l. tells_no (one c.before) c.if-not-not_empty.true-raw)
 
-has-pair-requires : tie.Need-has-pair-requires
+has-pair-requires : tie.Need-has_pair-requires
 has-pair-requires c κs = search rules
 
-returns-3 : tie.Need-returns-3
-returns-3 c = friends c.before.before.before.before 1 (omega arith) (tells_yes (one c.before.before.before) c.before.before.if2.false) (λ l. tells_no c.before.has-pair.ensures c.if3.true)
+returns-3 : tie.Need-returns-then-not-has_pair
+returns-3 c = friends c.before.before.before.before 1 (omega arith) (tells_yes (one c.before.before.before) c.if-not-not_empty.false-raw) (λ l. tells_no c.has_pair.ensures c.if-not-has_pair.true-raw)
 
-has-triangle-requires : tie.Need-has-triangle-requires
+has-triangle-requires : tie.Need-has_triangle-requires
 has-triangle-requires c κs = search rules
 
-returns-4 : tie.Need-returns-4
-returns-4 c = friends c.before.before.before.before.before.before 2 (omega arith) (tells_yes c.before.before.before.has-pair.ensures c.before.before.if3.false) (λ l. tells_no c.before.has-triangle.ensures c.if4.true)
+returns-4 : tie.Need-returns-then-not-has_triangle
+returns-4 c = friends c.before.before.before.before.before.before 2 (omega arith) (tells_yes c.has_pair.ensures c.if-not-has_pair.false-raw) (λ l. tells_no c.has_triangle.ensures c.if-not-has_triangle.true-raw)
 
-returns-5 : tie.Need-returns-5
-returns-5 c = friends c.before.before.before.before.before.before 3 (omega arith) (tells_yes c.before.has-triangle.ensures c.if4.false) (λ l. absurd (omega arith))
+returns-5 : tie.Need-returns
+returns-5 c = friends c.before.before.before.before.before.before 3 (omega arith) (tells_yes c.has_triangle.ensures c.if-not-has_triangle.false-raw) (λ l. absurd (omega arith))
 
-pub largest-spec : {M : Type 1} → statement M
-largest-spec =
+pub largest_spec : {M : Type 1} → statement M
+largest_spec =
     tie.close
     (tie.spec
     row-requires

@@ -4,11 +4,11 @@ use borrow.Author.Rules.{rules}
 use Rattle.layout.proofs.between.Statement.{statement}
 use Rattle.layout.proofs.between.Tie as tie
 
-returns : tie.Need-returns
+returns : tie.Need-returns-then-x-low
 returns c = search rules
 
-returns-2 : tie.Need-returns-2
-returns-2 c = decided (iff (λ h. (omega arith, h)) (λ h. h.1) (is_le c.before.args.x c.before.args.high))
+returns-2 : tie.Need-returns
+returns-2 c = decided (iff (λ h. (omega arith, h)) (λ h. h.1) (is_le c.args.x c.args.high))
 
-pub between-spec : {M : Type 1} → statement M
-between-spec = tie.close (tie.spec returns returns-2)
+pub between_spec : {M : Type 1} → statement M
+between_spec = tie.close (tie.spec returns returns-2)

@@ -44,19 +44,19 @@ use denote.Triple.Spec.{Meets, triple_of}
 use denote.Triple.Table.{entered, cited}
 use denote.Triple.Walked.{says, Stays, stay_ref, walk_of, Goes-ref, Walks, ends_at, walked, walk_Meets}
 use denote.Triple.Clauses.{ensured, lasts}
-use Rattle.log.specs.Read.{Read}
+use Rattle.log_records.specs.Read.{Read}
 use Rattle.log_reader.specs.declared.Reader.{Reader}
-use Rattle.log.specs.declared.Step.{Step}
+use Rattle.log_records.specs.declared.Step.{Step}
 use Rattle.log_reader.specs.contracts.Reader as T
 use Rattle.log_reader.proofs.Reader.TheLaws as T'
-use Rattle.log.specs.contracts.Step as S
-use Rattle.log.proofs.Step.TheLaws as S'
-use Rattle.log.specs.contracts.Answer as E
-use Rattle.log.proofs.Answer.TheLaws as E'
-use Rattle.log.specs.contracts.read as read
-use Rattle.log.proofs.read.Symbol as read-def
-use Rattle.log.proofs.read.Symbol.{name as #log·read}
-use Rattle.log.proofs.read.Met as read-thm
+use Rattle.log_records.specs.contracts.Step as S
+use Rattle.log_records.proofs.Step.TheLaws as S'
+use Rattle.log_records.specs.contracts.Answer as E
+use Rattle.log_records.proofs.Answer.TheLaws as E'
+use Rattle.log_records.specs.contracts.read as read
+use Rattle.log_records.proofs.read.Symbol as read-def
+use Rattle.log_records.proofs.read.Symbol.{name as #log·read}
+use Rattle.log_records.proofs.read.Met as read-thm
 use Rattle.log_reader.specs.contracts.next.Key.{name as #log-reader·next}
 use Rattle.log_reader.specs.contracts.next as next
 use Rattle.log_reader.proofs.next.Statement as stated

@@ -44,16 +44,16 @@ use denote.Triple.Table.{entered, cited}
 use denote.Triple.Walked.{says, Stays, stay_none, stay_none_slice, walk_of, Goes-none, Goes-none_slice, Walks, ends_at, walked, walk_Meets}
 use denote.Triple.Clauses.{Lasts, ensured, lasts}
 use denote.Exit.{yes}
-use Rattle.log.specs.Read.{Read}
-use Rattle.log.specs.declared.Answer.{Answer}
+use Rattle.log_records.specs.Read.{Read}
+use Rattle.log_records.specs.declared.Answer.{Answer}
 use Rattle.log_reader.specs.declared.Reader.{Reader}
-use Rattle.log.specs.declared.Step.{Step}
+use Rattle.log_records.specs.declared.Step.{Step}
 use Rattle.log_reader.specs.contracts.Reader as T
 use Rattle.log_reader.proofs.Reader.TheLaws as T'
-use Rattle.log.specs.contracts.Step as S
-use Rattle.log.proofs.Step.TheLaws as S'
-use Rattle.log.specs.contracts.Answer as E
-use Rattle.log.proofs.Answer.TheLaws as E'
+use Rattle.log_records.specs.contracts.Step as S
+use Rattle.log_records.proofs.Step.TheLaws as S'
+use Rattle.log_records.specs.contracts.Answer as E
+use Rattle.log_records.proofs.Answer.TheLaws as E'
 use Rattle.log_reader.specs.contracts.open as open'
 use Rattle.log_reader.proofs.open.Symbol as open-def
 use Rattle.log_reader.proofs.open.Symbol.{name as #log-reader·open}

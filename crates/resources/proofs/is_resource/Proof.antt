@@ -32,43 +32,43 @@ named c r {x} {y} e h = says-inside c.primitives c.items r y (rw e at h)
 classify-requires : tie.Need-classify-requires
 classify-requires c κs = search rules
 
-enum_told : tie.Need-enum-told
+enum_told : tie.Need-enum_told-1
 enum_told c = search rules
 
-enum-told-2 : tie.Need-enum-told-2
+enum-told-2 : tie.Need-enum_told-in-Traversal
 enum-told-2 c = search rules
 
-enum-told-3 : tie.Need-enum-told-3
+enum-told-3 : tie.Need-enum_told-in-Primitive
 enum-told-3 c = search rules
 
-enum-told-4 : tie.Need-enum-told-4
+enum-told-4 : tie.Need-enum_told-in-Item
 enum-told-4 c = search rules
 
-enum-told-5 : tie.Need-enum-told-5
+enum-told-5 : tie.Need-enum_told-in-Outside
 enum-told-5 c = search rules
 
-returns : tie.Need-returns
+returns : tie.Need-returns-in-Search
 unfolding inside
-returns c = named c.before.before.before.args.c c.before.before.before.args.r c.enum_told.given.1 c.before.before.classify.ensures
+returns c = named c.args.c c.args.r c.in-Search.is c.classify.ensures
 
-returns-2 : tie.Need-returns-2
+returns-2 : tie.Need-returns-in-Traversal
 unfolding inside
-returns-2 c = named c.before.before.before.args.c c.before.before.before.args.r c.enum-told2.given.1 c.before.before.classify.ensures
+returns-2 c = named c.args.c c.args.r c.in-Traversal.is c.classify.ensures
 
-returns-3 : tie.Need-returns-3
+returns-3 : tie.Need-returns-in-Primitive
 unfolding inside
-returns-3 c = named c.before.before.before.args.c c.before.before.before.args.r c.enum-told3.given.1 c.before.before.classify.ensures
+returns-3 c = named c.args.c c.args.r c.in-Primitive.is c.classify.ensures
 
-returns-4 : tie.Need-returns-4
+returns-4 : tie.Need-returns-in-Item
 unfolding inside
-returns-4 c = named c.before.before.before.args.c c.before.before.before.args.r c.enum-told4.given.1 c.before.before.classify.ensures
+returns-4 c = named c.args.c c.args.r c.in-Item.is c.classify.ensures
 
-returns-5 : tie.Need-returns-5
+returns-5 : tie.Need-returns-in-Outside
 unfolding inside
-returns-5 c = named c.before.before.before.args.c c.before.before.before.args.r c.enum-told5.given.1 c.before.before.classify.ensures
+returns-5 c = named c.args.c c.args.r c.in-Outside.is c.classify.ensures
 
-pub is-resource-spec : {M : Type 1} → statement M
-is-resource-spec =
+pub is_resource_spec : {M : Type 1} → statement M
+is_resource_spec =
     tie.close
     (tie.spec
     classify-requires

@@ -11,85 +11,85 @@ use Rattle.scheme.proofs.check.Statement.{statement}
 use Rattle.scheme.proofs.check.Tie as tie
 
 -- what holds past each refusal
-head : (c : tie.Else1) → RecordAt c.before.before.before.args.scheme.now 0 1 6
-head c = passed c.before.record-at.result c.if1.false c.before.record-at.ensures
+head : (c : tie.Else-not-record_at) → RecordAt c.args.scheme.now 0 1 6
+head c = passed c.record_at.result c.if-not-record_at.false-raw c.record_at.ensures
 
-range : (c : tie.Else2) → InRange c.before.before.counts.result
-range c = passed c.before.counts_fit.result c.if2.false c.before.counts_fit.ensures
+range : (c : tie.Else-not-counts_fit) → InRange c.counts-counts.result
+range c = passed c.counts_fit.result c.if-not-counts_fit.false-raw c.counts_fit.ensures
 
-fit : (c : tie.Else2) → CountsFit c.before.before.before.before.before.before.args.scheme.now
-fit c = counts_fit c.before.before.before.before.before.before.args.scheme.now c.before.before.counts.result c.before.before.counts.ensures (range c)
+fit : (c : tie.Else-not-counts_fit) → CountsFit c.args.scheme.now
+fit c = counts_fit c.args.scheme.now c.counts-counts.result c.counts-counts.ensures (range c)
 
-whole : (c : tie.Else3) → Records c.before.before.before.before.before.before.before.before.args.scheme.now
-whole c = passed c.before.records.result c.if3.false c.before.records.ensures
+whole : (c : tie.Else-not-records) → Records c.args.scheme.now
+whole c = passed c.records.result c.if-not-records.false-raw c.records.ensures
 
-fits : (c : tie.Else4) → BytesFit c.before.before.before.before.before.before.before.before.before.before.args.scheme.now
-fits c = passed c.before.bytes_fit.result c.if4.false c.before.bytes_fit.ensures
+fits : (c : tie.Else-not-bytes_fit) → BytesFit c.args.scheme.now
+fits c = passed c.bytes_fit.result c.if-not-bytes_fit.false-raw c.bytes_fit.ensures
 
-record-at-requires : tie.Need-record-at-requires
+record-at-requires : tie.Need-record_at-requires
 record-at-requires c κs = search rules
 
-returns : tie.Need-returns
-returns c = (inl (refused c.before.record-at.result c.if1.true c.before.record-at.ensures, refl), omega arith)
+returns : tie.Need-returns-then-not-record_at
+returns c = (inl (refused c.record_at.result c.if-not-record_at.true-raw c.record_at.ensures, refl), omega arith)
 
-counts-requires : tie.Need-counts-requires
+counts-requires : tie.Need-counts-counts-requires
 counts-requires c κs = omega (arith, head c)
 
-counts-fit-requires : tie.Need-counts-fit-requires
+counts-fit-requires : tie.Need-counts_fit-requires
 counts-fit-requires c κs = search rules
 
-returns-2 : tie.Need-returns-2
+returns-2 : tie.Need-returns-then-not-counts_fit
 returns-2 c =
-    let b = c.before.before.before.before.before.before.args.scheme.now in
-    let k = c.before.before.counts in (
-      inr (head c.before.before.before, inl ((λ f. refused c.before.counts_fit.result c.if2.true c.before.counts_fit.ensures (counts_in b k.result k.ensures f)), refl)),
+    let b = c.args.scheme.now in
+    let k = c.counts-counts in (
+      inr (head c.before.before.before, inl ((λ f. refused c.counts_fit.result c.if-not-counts_fit.true-raw c.counts_fit.ensures (counts_in b k.result k.ensures f)), refl)),
       omega arith,
     )
 
 records-requires : tie.Need-records-requires
-records-requires c κs = (c.before.before.counts.ensures, range c)
+records-requires c κs = (c.counts-counts.ensures, range c)
 
-returns-3 : tie.Need-returns-3
+returns-3 : tie.Need-returns-then-not-records
 returns-3 c = (
-  inr (head c.before.before.before.before.before, inr (fit c.before.before, inl (refused c.before.records.result c.if3.true c.before.records.ensures, refl))),
+  inr (head c.before.before.before.before.before, inr (fit c.before.before, inl (refused c.records.result c.if-not-records.true-raw c.records.ensures, refl))),
   omega arith,
 )
 
-bytes-fit-requires : tie.Need-bytes-fit-requires
-bytes-fit-requires c κs = (c.before.before.before.before.counts.ensures, range c.before.before, whole c)
+bytes-fit-requires : tie.Need-bytes_fit-requires
+bytes-fit-requires c κs = (c.counts-counts.ensures, range c.before.before, whole c)
 
-returns-4 : tie.Need-returns-4
+returns-4 : tie.Need-returns-then-not-bytes_fit
 returns-4 c = (
-  inr (head c.before.before.before.before.before.before.before, inr (fit c.before.before.before.before, inr (whole c.before.before, inl (refused c.before.bytes_fit.result c.if4.true c.before.bytes_fit.ensures, refl)))),
+  inr (head c.before.before.before.before.before.before.before, inr (fit c.before.before.before.before, inr (whole c.before.before, inl (refused c.bytes_fit.result c.if-not-bytes_fit.true-raw c.bytes_fit.ensures, refl)))),
   omega arith,
 )
 
 -- the scheme can be read
-readable : (c : tie.Else4) → ReadAs c.before.before.before.before.before.before.before.before.before.before.args.scheme.now c.before.before.before.before.before.before.counts.result
-readable c = record { counts = c.before.before.before.before.before.before.counts.ensures; range = range c.before.before.before.before; records = whole c.before.before; bytes = fits c }
+readable : (c : tie.Else-not-bytes_fit) → ReadAs c.args.scheme.now c.counts-counts.result
+readable c = record { counts = c.counts-counts.ensures; range = range c.before.before.before.before; records = whole c.before.before; bytes = fits c }
 
 apart-requires : tie.Need-apart-requires
 apart-requires c κs = readable c
 
-returns-5 : tie.Need-returns-5
+returns-5 : tie.Need-returns-then-not-apart
 returns-5 c = (
-  inr (head c.before.before.before.before.before.before.before.before.before, inr (fit c.before.before.before.before.before.before, inr (whole c.before.before.before.before, inr (fits c.before.before, inl (refused c.before.apart.result c.if5.true c.before.apart.ensures, refl))))),
+  inr (head c.before.before.before.before.before.before.before.before.before, inr (fit c.before.before.before.before.before.before, inr (whole c.before.before.before.before, inr (fits c.before.before, inl (refused c.apart.result c.if-not-apart.true-raw c.apart.ensures, refl))))),
   omega arith,
 )
 
 marked-requires : tie.Need-marked-requires
 marked-requires c κs = readable c.before.before
 
-returns-6 : tie.Need-returns-6
+returns-6 : tie.Need-returns
 returns-6 c =
     let e = c.before in (
-      inr (head e.before.before.before.before.before.before.before.before.before, inr (fit e.before.before.before.before.before.before, inr (whole e.before.before.before.before, inr (fits e.before.before, inr (passed e.before.apart.result e.if5.false e.before.apart.ensures, refl))))),
+      inr (head e.before.before.before.before.before.before.before.before.before, inr (fit e.before.before.before.before.before.before, inr (whole e.before.before.before.before, inr (fits e.before.before, inr (passed e.apart.result e.if-not-apart.false-raw e.apart.ensures, refl))))),
       c.marked.ensures.0,
       c.marked.ensures.1,
     )
 
-pub check-spec : {M : Type 1} → statement M
-check-spec =
+pub check_spec : {M : Type 1} → statement M
+check_spec =
     tie.close
     (tie.spec
     record-at-requires

@@ -10,32 +10,32 @@ small c =
     let p = c.requires in
     move_small a.s.now a.c p.0 a.state a.side a.primitive p.1 p.2 p.3
 
-mul-result : tie.Need-overflow-mul-result
+mul-result : tie.Need-overflow_mul-result
 mul-result c = search rules
 
-add-result : tie.Need-overflow-add-result
+add-result : tie.Need-overflow_add-result
 add-result c = search rules
 
-mul-result-2 : tie.Need-overflow-mul-result-2
+mul-result-2 : tie.Need-overflow_mul-result-2
 mul-result-2 c = omega (arith, small c.before)
 
-add-result-2 : tie.Need-overflow-add-result-2
+add-result-2 : tie.Need-overflow_add-result-2
 add-result-2 c = omega (arith, small c.before)
 
-add-result-3 : tie.Need-overflow-add-result-3
+add-result-3 : tie.Need-overflow_add-result-3
 add-result-3 c = omega (arith, small c.before)
 
-shared-slice-read-result : tie.Need-shared-slice-read-result
+shared-slice-read-result : tie.Need-bounds-s-state
 shared-slice-read-result c = (small c.before.before).1
 
 returns : tie.Need-returns
 returns c =
-    let a = c.before.before.args in
-    let p = c.before.before.requires in
+    let a = c.args in
+    let p = c.requires in
     move_is a.s.now a.c p.0 a.state a.side a.primitive p.1 p.2 p.3
 
-pub next-state-spec : {M : Type 1} → statement M
-next-state-spec =
+pub next_state_spec : {M : Type 1} → statement M
+next_state_spec =
     tie.close
     (tie.spec
     mul-result

@@ -8,22 +8,22 @@ use borrow.Author.Rules.{rules}
 use Rattle.network.proofs.read.pairs.Statement.{statement}
 use Rattle.network.proofs.read.pairs.Tie as tie
 
-returns : tie.Need-returns
-returns c = (sym (ap pairs c.if1.true), omega arith)
+returns : tie.Need-returns-then-members-eq0
+returns c = (sym (ap pairs c.if-members-eq0.true), omega arith)
 
-sub-result : tie.Need-overflow-sub-result
+sub-result : tie.Need-overflow_sub-result
 sub-result c = search rules
 
-mul-result : tie.Need-overflow-mul-result
+mul-result : tie.Need-overflow_mul-result
 mul-result c =
-    let m = c.before.args.members in
+    let m = c.args.members in
     let l : m ≤ 256 = omega arith in
     let k : m - 1 ≤ 256 = omega arith in
     let e : m * (m - 1) ≤ 256 * 256 = mul-le-mul l k in
     omega arith
 
-returns-2 : tie.Need-returns-2
-returns-2 c = (refl, pairs_small c.before.args.members c.before.requires)
+returns-2 : tie.Need-returns
+returns-2 c = (refl, pairs_small c.args.members c.requires)
 
-pub pairs-spec : {M : Type 1} → statement M
-pairs-spec = tie.close (tie.spec returns sub-result mul-result returns-2)
+pub pairs_spec : {M : Type 1} → statement M
+pairs_spec = tie.close (tie.spec returns sub-result mul-result returns-2)

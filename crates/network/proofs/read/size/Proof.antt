@@ -16,23 +16,23 @@ resources-requires c κs = search rules
 
 -- where the settings end
 ends : (c : tie.After-resources)
-    → let a = c.before.before.before.args in
+    → let a = c.args in
     let settings = a.c.members * c.resources.result in
-    (c.before.pairs.result + settings ≡ size_of (scheme_of a.scheme.now)) × (settings ≤ 6656)
+    (c.pairs.result + settings ≡ size_of (scheme_of a.scheme.now)) × (settings ≤ 6656)
 ends c =
-    let h = c.before.before.before.requires in
-    let f = c.before.pairs.ensures.0 in
+    let h = c.requires in
+    let f = c.pairs.ensures.0 in
     let e = c.resources.ensures.0 in
     (settings_end h f e, settings_small h f e)
 
-mul-result : tie.Need-overflow-mul-result
+mul-result : tie.Need-overflow_mul-result
 mul-result c = omega (arith, ends c.before)
 
-add-result : tie.Need-overflow-add-result
+add-result : tie.Need-overflow_add-result
 add-result c = omega (arith, ends c.before)
 
 returns : tie.Need-returns
 returns c = let e = ends c.before in (e.0, omega arith, omega arith)
 
-pub size-spec : {M : Type 1} → statement M
-size-spec = tie.close (tie.spec pairs-requires resources-requires mul-result add-result returns)
+pub size_spec : {M : Type 1} → statement M
+size_spec = tie.close (tie.spec pairs-requires resources-requires mul-result add-result returns)

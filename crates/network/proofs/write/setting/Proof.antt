@@ -27,36 +27,36 @@ small c =
 
 -- the code's place is the setting's
 place : (c : tie.After-resources)
-    → c.before.pairs.result + ((start c).args.u * c.resources.result + (start c).args.r)
+    → c.pairs.result + ((start c).args.u * c.resources.result + (start c).args.r)
     ≡ setting_place (scheme_of (start c).args.scheme.now) (start c).args.u (start c).args.r
-place c = setting-place (start c).requires.0 (start c).args.u (start c).args.r _ _ c.before.pairs.ensures.0 c.resources.ensures.0
+place c = setting-place (start c).requires.0 (start c).args.u (start c).args.r _ _ c.pairs.ensures.0 c.resources.ensures.0
 
 pairs-requires : tie.Need-pairs-requires
-pairs-requires c κs = omega (arith, ready_range c.before.before.requires.0)
+pairs-requires c κs = omega (arith, ready_range c.requires.0)
 
 resources-requires : tie.Need-resources-requires
-resources-requires c κs = ready_range c.before.before.before.requires.0
+resources-requires c κs = ready_range c.requires.0
 
-mul_at : tie.Need-overflow-mul-at
+mul_at : tie.Need-overflow_mul-at
 mul_at c = omega (arith, small c)
 
-add_at : tie.Need-overflow-add-at
+add_at : tie.Need-overflow_add-at
 add_at c = omega (arith, small c)
 
-add-at-2 : tie.Need-overflow-add-at-2
+add-at-2 : tie.Need-overflow_add-at-2
 add-at-2 c = omega (arith, small c)
 
-slice-write-network : tie.Need-slice-write-network
+slice-write-network : tie.Need-bounds-network-at
 slice-write-network c = rw (place c) (setting_inside (start c).requires.0 (start c).args.u (start c).args.r (start c).requires.1 (start c).requires.2)
 
-same_length : tie.Need-same-length
+same_length : tie.Need-shape_of-network
 same_length c = search rules
 
 returns : tie.Need-returns
 returns c = ap (λ (x : ℕ). set (start c).args.network.now x (start c).args.p) (place c)
 
-pub setting-spec : {M : Type 1} → statement M
-setting-spec =
+pub setting_spec : {M : Type 1} → statement M
+setting_spec =
     tie.close
     (tie.spec
     pairs-requires

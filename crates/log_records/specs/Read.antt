@@ -2,8 +2,8 @@
 use Rattle.std.specs.Prelude.{ℕ, ◌≡◌, List}
 use Rattle.model.specs.Log.{Outcome, ended, refused, request, NextAt, place_after}
 use Rattle.kinds.specs.Kinds.{request_of}
-use Rattle.log.specs.declared.Answer.{Answer}
-use Rattle.log.specs.declared.Answer.TheVariants.{Asks, Refused, Ended}
+use Rattle.log_records.specs.declared.Answer.{Answer}
+use Rattle.log_records.specs.declared.Answer.TheVariants.{Asks, Refused, Ended}
 
 -- document 01's outcome of an answer, where a list is lent this many places
 abbrev pub outcome : ℕ → Answer → Outcome

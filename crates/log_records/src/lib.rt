@@ -1,6 +1,9 @@
 // The records of a log (document 01, "Next log record").
+
+#![tactic(auto)]
+
 ghost use Rattle.std.specs.Prelude.{◌≡◌};
-ghost use Rattle.log.specs.Read.{SaidAt, Read};
+ghost use Rattle.log_records.specs.Read.{SaidAt, Read};
 
 use kinds::Request;
 

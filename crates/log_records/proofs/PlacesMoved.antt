@@ -7,9 +7,9 @@ use Rattle.model.specs.Bytes.{two}
 use Rattle.model.proofs.Logging.{within}
 use Rattle.kinds.specs.Kinds.{request_of}
 use Rattle.kinds.specs.declared.Request.{Request}
-use Rattle.log.specs.declared.Answer.{Answer}
-use Rattle.log.specs.declared.Answer.TheVariants.{Asks, Refused, Ended}
-use Rattle.log.specs.Read.{SaidAt, Read}
+use Rattle.log_records.specs.declared.Answer.{Answer}
+use Rattle.log_records.specs.declared.Answer.TheVariants.{Asks, Refused, Ended}
+use Rattle.log_records.specs.Read.{SaidAt, Read}
 
 module _ (log : List ℕ) (place : ℕ) {answer : Answer} (s : SaidAt log place answer) where
   -- a request's record lies within the log

@@ -7,9 +7,9 @@ use Rattle.model.specs.Log.{place_after}
 use Rattle.model.proofs.Logging.{next_once}
 use Rattle.kinds.specs.Kinds.{request_of}
 use Rattle.kinds.proofs.Once.{asked_once}
-use Rattle.log.specs.declared.Answer.{Answer}
-use Rattle.log.specs.declared.Answer.TheVariants.{Asks, Refused, Ended}
-use Rattle.log.specs.Read.{outcome, SaidAt, Read}
+use Rattle.log_records.specs.declared.Answer.{Answer}
+use Rattle.log_records.specs.declared.Answer.TheVariants.{Asks, Refused, Ended}
+use Rattle.log_records.specs.Read.{outcome, SaidAt, Read}
 
 outcome_once : (a b : Answer) → outcome 0 a ≡ outcome 0 b → a ≡ b
 outcome_once (Asks q) (Asks q') e = let f : request_of q 0 ≡ request_of q' 0 = cc in ap Asks (asked_once 0 f)
