@@ -6,22 +6,23 @@ use replay::Outcome;
 use std::io;
 use std::rt::Files;
 
-// Tells, as an error, that a write failed.
-fn tell(outcome: Outcome) -> io::Result<()> {
+// Tells on standard error that a write failed, and why.
+fn tell(rt: &impl Eprint, outcome: Outcome) -> io::Result<()> {
     match outcome {
         Outcome::Whole(_) => Ok(()),
-        Outcome::Cut(_) => Err(io::Error::other("the output is cut")),
+        Outcome::Cut(_, error) => eprintln!(rt; "the output is cut: {error}"),
     }
 }
 
 // The buffers hold more than every scheme and log that is accepted, and so the answer for files of any length.
-fn run(rt: &(impl Files + Print)) -> io::Result<()> {
+fn run(rt: &(impl Files + Print + Eprint)) -> io::Result<()> {
     let mut scheme = [0u8; 4096];
     let mut log = [0u8; 65536];
     let scheme_length = files::read(rt, b"scheme", &mut scheme);
     let log_length = files::read(rt, b"requests", &mut log);
     let mut out = io::writer(rt);
-    tell(replay::print(&mut out, &scheme[..scheme_length], &log[..log_length]))
+    let outcome = replay::print(&mut out, &scheme[..scheme_length], &log[..log_length]);
+    tell(rt, outcome)
 }
 
 fn main(rt: HostRuntime) -> io::Result<()> {

@@ -54,7 +54,7 @@ Continued =
 -- a write hands over all of its bytes, or fails and adds none
 abbrev pub Adds : ℕ → ℕ → Outcome → Type 0
 Adds before count (Whole written) = written ≡ before + count
-Adds before count (Cut written) = written ≡ before
+Adds before count (Cut written error) = written ≡ before
 
 -- so many bytes were handed over to be written as the text has, of files of any length: where what was read is longer than every accepted
 -- scheme or log, it has the whole file's text; or, where a write failed, the bytes handed over before it are the text's first lines
@@ -63,4 +63,4 @@ Printed b log (Whole written) =
     (text : List ℕ)
     × (written ≡ length text)
     × ((more rest : List ℕ) → ReadOf 530 b more → ReadOf 16384 log rest → Text (b ++ more) (log ++ rest) text)
-Printed b log (Cut written) = (text : List ℕ) × (written ≡ length text) × (count : ℕ) × (reached : State) × Prints b log count start text reached
+Printed b log (Cut written error) = (text : List ℕ) × (written ≡ length text) × (count : ℕ) × (reached : State) × Prints b log count start text reached

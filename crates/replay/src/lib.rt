@@ -8,13 +8,13 @@ ghost use Rattle.fresh_start.specs.Stands.{Ready};
 ghost use Rattle.replay.specs.Fills.{IsOver, Fills, Adds, Printed, Continued};
 
 use fresh_start::{Filled, Stand};
-use std::io::Write;
+use std::io::{Error, Write};
 
-// How the text was printed: whole, so many bytes; or cut, since a write failed after so many.
+// How the text was printed: whole, so many bytes; or cut, since a write failed after so many, and why.
 #[derive(Drop)]
 pub enum Outcome {
     Whole(u64),
-    Cut(u64),
+    Cut(u64, Error),
 }
 
 // Whether there is a next step, and room for it: so many bytes are lent for the network, and so many for the text.
@@ -64,10 +64,10 @@ fn write<W: Write>(out: &mut W, bytes: &[u8], written: u64) -> Outcome
     requires { written + length bytes.now ≤ 18446744073709551615 }
     ensures { Adds written (length bytes.now) result }
 {
-    if !files::write(out, bytes) {
-        return Outcome::Cut(written);
+    match files::write(out, bytes) {
+        Ok(()) => Outcome::Whole(written + bytes.len() as u64),
+        Err(error) => Outcome::Cut(written, error),
     }
-    Outcome::Whole(written + bytes.len() as u64)
 }
 
 // Writes the text by buffers, up to a write that fails.
