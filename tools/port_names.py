@@ -18,6 +18,9 @@ TOKEN = re.compile(r"[^\s(){}\[\].,;:λ◌∷×≡<≤→←⊎+*/^%&|=!?\"`]+")
 LEMMAS = ('bit-and', 'bit-or', 'lowest-from', 'is-record', 'is-clique', 'has-degree', 'friend-of-all', 'sides-for', 'next-in', 'event-judged', 'by-word', 'kind-of',
           'is_within', 'too_long')
 
+# constructors that stand several in a line
+MORE = ('any-side', 'owner-lesser', 'owner-greater', 'owner-only')
+
 
 def snake(name):
     name = name.replace('-', '_')
@@ -58,6 +61,7 @@ def main():
     names = defined()
     new = {name: snake(name) for name in names if snake(name) != name}
     functions = {snake(name) for name in new if '-' not in name}
+    new.update({name: snake(name) for name in MORE})
     new.update({name: snake(name) + '_lem' for name in LEMMAS if name in names and ('-' in name or name in functions)})
     for name, to in new.items():
         if to in names and to not in new:

@@ -1,4 +1,7 @@
 // Columns: for each member a byte that tells which of eight members it is a friend of, to be put into its row at once.
+
+#![tactic(auto)]
+
 ghost use Rattle.std.specs.Prelude.{◌≡◌, ℕ, ◌+◌, ◌%◌, ◌≤◌, ◌<◌, length, get_or};
 ghost use Rattle.columns.specs.Columns.{FlagsAdded, ColumnsPut};
 

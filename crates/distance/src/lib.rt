@@ -1,4 +1,7 @@
 // Distances over friendships (document 01, "Policies", kind 3; document 02, 2026-01).
+
+#![tactic(auto)]
+
 ghost use Rattle.std.specs.Prelude.{◌≡◌, ◌<◌, ◌≤◌, length};
 ghost use Rattle.network.specs.Ready.{Ready, graph_of};
 ghost use Rattle.next_friend.specs.Spread.{Marked};

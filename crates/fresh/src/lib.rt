@@ -1,4 +1,7 @@
 // The fresh network (document 01, "Network", "Fresh").
+
+#![tactic(auto)]
+
 ghost use Rattle.std.specs.Prelude.{◌+◌, ◌*◌, ◌≤◌, length};
 ghost use Rattle.model.specs.SchemeBytes.{scheme_of};
 ghost use Rattle.model.specs.Calls.{Freshened};

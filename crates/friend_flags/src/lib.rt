@@ -1,4 +1,7 @@
 // Whether pairs are friends, a byte for each: read off pair bytes that stand side by side, and packed as bits.
+
+#![tactic(auto)]
+
 ghost use Rattle.std.specs.Prelude.{◌≡◌, ℕ, ◌+◌, ◌%◌, ◌<◌, ◌≤◌, eqb, length, get_or};
 ghost use Rattle.model.specs.Bytes.{byte, bit};
 ghost use Rattle.friend_flags.specs.Flags.{Flagged, Packed, Told};

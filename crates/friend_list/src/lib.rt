@@ -1,4 +1,7 @@
 // A member's friends, written to an output (document 01, "list").
+
+#![tactic(auto)]
+
 ghost use Rattle.std.specs.Prelude.{◌≡◌, ◌<◌, ◌≤◌, length, take};
 ghost use Rattle.model.specs.Requests.{those};
 ghost use Rattle.model.specs.Calls.{FrontOnly};

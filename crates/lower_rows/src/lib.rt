@@ -1,4 +1,7 @@
 // Rows as far as the members below go: the states with these stand side by side.
+
+#![tactic(auto)]
+
 ghost use Rattle.std.specs.Prelude.{◌≡◌, ℕ, ◌+◌, ◌≤◌, ◌<◌, length, get_or};
 ghost use Rattle.model.specs.Bytes.{digit};
 ghost use Rattle.network.specs.Ready.{Ready, graph_of};

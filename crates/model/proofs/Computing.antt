@@ -5,8 +5,8 @@ use mathlib.Core.List.{List, [], ◌∷◌}
 use lib.Dec.{eqb, leb, ltb}
 use Rattle.model.specs.Bytes.{bit}
 use Rattle.model.specs.Graph.{Graph, Degree, friendships, none, shared}
-use Rattle.model.specs.Policies.{Policy, no_one, everyone, owner-only, within, known, clique, state, both, either}
-use Rattle.model.specs.Policies.{Side, any-side, owner-lesser, owner-greater}
+use Rattle.model.specs.Policies.{Policy, no_one, everyone, owner_only, within, known, clique, state, both, either}
+use Rattle.model.specs.Policies.{Side, any_side, owner_lesser, owner_greater}
 use Rattle.model.specs.Finding.{Paths, World, paths}
 use Rattle.model.specs.Scheme.{Scheme, resources}
 use Rattle.model.specs.Network.{Maps, world}
@@ -52,14 +52,14 @@ unfoldable pub is_clique : Graph → ℕ → ℕ → ℕ → Bool
 is_clique g k u v = some_list g.members k (λ l. all_friends g l && (among u l && among v l))
 
 unfoldable pub on_side : Side → ℕ → ℕ → Bool
-on_side any-side u v = true
-on_side owner-lesser u v = ltb u v
-on_side owner-greater u v = ltb v u
+on_side any_side u v = true
+on_side owner_lesser u v = ltb u v
+on_side owner_greater u v = ltb v u
 
 unfoldable pub admits : Graph → Policy → ℕ → ℕ → Bool
 admits g no_one u v = false
 admits g everyone u v = true
-admits g owner-only u v = eqb u v
+admits g owner_only u v = eqb u v
 admits g (within k) u v = is_within g k u v
 admits g (known k) u v = eqb u v || (g.friends u v || leb k (shared g u v))
 admits g (clique k) u v = eqb u v || is_clique g k u v

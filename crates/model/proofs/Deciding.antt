@@ -12,8 +12,8 @@ use lib.ListN.{length}
 use borrow.Author.Tests.{eqb-true, eqb-false, ltb-true, ltb-false, leb-true, leb-false}
 use Rattle.model.specs.Decides.{Decides}
 use Rattle.model.specs.Graph.{Graph, Friends, Within, shared, FriendOfAll, Mutual, Among, Clique}
-use Rattle.model.specs.Policies.{Side, any-side, owner-lesser, owner-greater, OnSide, Admits}
-use Rattle.model.specs.Policies.{Policy, no_one, everyone, owner-only, within, known, clique, state, both, either}
+use Rattle.model.specs.Policies.{Side, any_side, owner_lesser, owner_greater, OnSide, Admits}
+use Rattle.model.specs.Policies.{Policy, no_one, everyone, owner_only, within, known, clique, state, both, either}
 use Rattle.model.proofs.Computing.{some, every, among, is_within, friend_of_all, all_friends, some_list, is_clique, on_side, admits}
 
 -- b says whether P holds; a record, so that both can be inferred
@@ -224,15 +224,15 @@ module _ (g : Graph) (inside : Inside g) where
 
   is_on_side : (s : Side) (u v : ℕ) → Says (on_side s u v) (OnSide s u v)
   unfolding on_side
-  is_on_side any-side u v = says tt
-  is_on_side owner-lesser u v = is_lt u v
-  is_on_side owner-greater u v = is_lt v u
+  is_on_side any_side u v = says tt
+  is_on_side owner_lesser u v = is_lt u v
+  is_on_side owner_greater u v = is_lt v u
 
   pub is_admitted : (p : Policy) (u v : ℕ) → Says (admits g p u v) (Admits g p u v)
   unfolding admits
   is_admitted no_one u v = says (λ h. h)
   is_admitted everyone u v = says tt
-  is_admitted owner-only u v = is_eq u v
+  is_admitted owner_only u v = is_eq u v
   is_admitted (within k) u v = is_within_lem k u v
   is_admitted (known k) u v = disj (is_eq u v) (disj (is_true (g.friends u v)) (is_le k (shared g u v)))
   is_admitted (clique k) u v = disj (is_eq u v) (is_clique_lem k u v)

@@ -3,7 +3,7 @@ use Rattle.std.specs.Prelude.{ℕ, ◌≡◌, Bool, true, false, ◌&&◌, ◌||
 use Rattle.model.specs.Answers.{Answers}
 use Rattle.model.specs.Bytes.{bit}
 use Rattle.model.specs.Graph.{Graph, Degree, friendships, none, IsDegree}
-use Rattle.model.specs.Policies.{Policy, known, clique, within, state, both, either, owner-only, no_one, everyone, any-side, owner-lesser, owner-greater, Admits}
+use Rattle.model.specs.Policies.{Policy, known, clique, within, state, both, either, owner_only, no_one, everyone, any_side, owner_lesser, owner_greater, Admits}
 use Rattle.model.specs.Finding.{World}
 use Rattle.model.specs.Network.{Maps, marked_graph, world}
 use Rattle.model.specs.Requests.{Request, event, set_policy, find, list, view, needs, writes, does, granted}
@@ -36,8 +36,8 @@ abbrev pub admissions : List Admission
 admissions =
     (no_one, 2, 2, false)
     ∷ (everyone, 0, 4, true)
-    ∷ (owner-only, 2, 2, true)
-    ∷ (owner-only, 2, 1, false)
+    ∷ (owner_only, 2, 2, true)
+    ∷ (owner_only, 2, 1, false)
     ∷ (known 2, 0, 3, true)
     ∷ (known 3, 0, 3, false)
     ∷ (known 9, 0, 1, true)
@@ -52,16 +52,16 @@ admissions =
     ∷ (within 2, 0, 4, false)
     ∷ (within 3, 0, 4, true)
     ∷ (within 1, 4, 4, true)
-    ∷ (state 8 any-side, 1, 0, true)
-    ∷ (state 8 any-side, 0, 4, false)
-    ∷ (state 8 owner-lesser, 0, 1, true)
-    ∷ (state 8 owner-lesser, 1, 0, false)
-    ∷ (state 8 owner-greater, 1, 0, true)
-    ∷ (state 8 owner-greater, 0, 1, false)
-    ∷ (both (known 2) owner-only, 0, 3, false)
+    ∷ (state 8 any_side, 1, 0, true)
+    ∷ (state 8 any_side, 0, 4, false)
+    ∷ (state 8 owner_lesser, 0, 1, true)
+    ∷ (state 8 owner_lesser, 1, 0, false)
+    ∷ (state 8 owner_greater, 1, 0, true)
+    ∷ (state 8 owner_greater, 0, 1, false)
+    ∷ (both (known 2) owner_only, 0, 3, false)
     ∷ (both (known 2) (within 2), 0, 3, true)
     ∷ (either no_one (known 2), 0, 3, true)
-    ∷ (either no_one owner-only, 0, 3, false)
+    ∷ (either no_one owner_only, 0, 3, false)
     ∷ []
 
 -- a network of four under the standard scheme: 0 and 1 are friends, 1 and 2 are friends, 3 is a stranger to all;

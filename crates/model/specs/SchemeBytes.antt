@@ -3,13 +3,13 @@ use Rattle.std.specs.Prelude.{ℕ, zero, suc, ◌+◌, ◌*◌, ◌<◌, ◌≤�
 use Rattle.model.specs.Answers.{Requirement, Answers}
 use Rattle.model.specs.Bytes.{byte, two, four, RecordAt, bit, NoBitFrom}
 use Rattle.model.specs.Graph.{Graph}
-use Rattle.model.specs.Policies.{Side, any-side, owner-lesser, owner-greater, Admits}
-use Rattle.model.specs.Policies.{Policy, no_one, everyone, owner-only, within, known, clique, state, both, either}
+use Rattle.model.specs.Policies.{Side, any_side, owner_lesser, owner_greater, Admits}
+use Rattle.model.specs.Policies.{Policy, no_one, everyone, owner_only, within, known, clique, state, both, either}
 use Rattle.model.specs.Scheme.{Scheme, lowest}
 
 -- the side that k names in kind 6
 abbrev pub side_of : ℕ → Side
-side_of k = get_or (any-side ∷ owner-lesser ∷ owner-greater ∷ []) k any-side
+side_of k = get_or (any_side ∷ owner_lesser ∷ owner_greater ∷ []) k any_side
 
 -- the policy of a kind and its three other bytes; operands are looked up among the policies of lower number
 abbrev pub policy_of : (ℕ → Policy) → ℕ → ℕ → ℕ → ℕ → Policy
@@ -17,7 +17,7 @@ policy_of lower kind k left right =
     get_or
     (no_one
     ∷ everyone
-    ∷ owner-only
+    ∷ owner_only
     ∷ within k
     ∷ known k
     ∷ clique k

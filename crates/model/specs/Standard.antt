@@ -1,6 +1,6 @@
 -- The standard scheme, as tables and as bytes (docs/reference.md, "The standard scheme").
 use Rattle.std.specs.Prelude.{ℕ, ◌+◌, ◌/◌, ◌%◌, ◌^◌, ◌<◌, ◌≡◌, ◌&&◌, cond, List, [], ◌∷◌, ◌++◌, eqb, get_or}
-use Rattle.model.specs.Policies.{Policy, no_one, everyone, owner-only, within, state, either, owner-lesser, owner-greater}
+use Rattle.model.specs.Policies.{Policy, no_one, everyone, owner_only, within, state, either, owner_lesser, owner_greater}
 use Rattle.model.specs.Scheme.{Scheme}
 use Rattle.model.specs.SchemeBytes.{scheme_of}
 
@@ -26,20 +26,20 @@ standard_moves =
 
 -- policy 7: owner and accessor are invited and inviter, on either side
 abbrev pub invited : Policy
-invited = either (state (2 ^ 2) owner-lesser) (state (2 ^ 1) owner-greater)
+invited = either (state (2 ^ 2) owner_lesser) (state (2 ^ 1) owner_greater)
 
 abbrev pub standard_policies : List Policy
 standard_policies =
     no_one
-    ∷ owner-only
+    ∷ owner_only
     ∷ within 1
     ∷ within 2
     ∷ everyone
-    ∷ state (2 ^ 2) owner-lesser
-    ∷ state (2 ^ 1) owner-greater
+    ∷ state (2 ^ 2) owner_lesser
+    ∷ state (2 ^ 1) owner_greater
     ∷ invited
     ∷ either no_one invited
-    ∷ either owner-only invited
+    ∷ either owner_only invited
     ∷ either (within 1) invited
     ∷ either (within 2) invited
     ∷ either everyone invited

@@ -1,4 +1,7 @@
 // How a primitive moves the state of a pair (document 01, "Scheme", kind 2).
+
+#![tactic(auto)]
+
 ghost use Rattle.std.specs.Prelude.{◌≡◌, ◌<◌};
 ghost use Rattle.model.specs.Network.{held};
 ghost use Rattle.model.specs.Requests.{next};

@@ -1,4 +1,7 @@
 // Who may share a friend with a member.
+
+#![tactic(auto)]
+
 ghost use Rattle.std.specs.Prelude.{ℕ, ◌<◌};
 ghost use Rattle.network.specs.Ready.{Ready, graph_of};
 ghost use Rattle.sets.specs.Rows.{FriendRow};

@@ -1,4 +1,7 @@
 // Friends of a member, by the pair bytes in their order, so that no place is computed anew for each: the next who is not seen.
+
+#![tactic(auto)]
+
 pub mod marks;
 
 ghost use Rattle.std.specs.Prelude.{◌<◌, ◌≤◌, length};

@@ -1,4 +1,7 @@
 // What every call checks first: the scheme, the network and the members (1 to 6).
+
+#![tactic(auto)]
+
 ghost use Rattle.opening.specs.Opened.{Opened};
 
 use scheme::Reading;

@@ -19,28 +19,19 @@ use Rattle.rules.specs.Rules.{policy_of_rule, kind_of, RuleAt}
 use Rattle.rules.specs.contracts.Rule.{the_type}
 use Rattle.prepared.specs.Reading.{Reach, Farthest, SomeOfKind}
 
--- a rule's tag is its policy's kind
-pub same_kind : (lower : ℕ → Policy) (rule : Rule) → tag_of the_type rule ≡ kind_of (policy_of_rule lower rule)
-same_kind lower NoOne = refl
-same_kind lower Everyone = refl
-same_kind lower Owner = refl
-same_kind lower (Within k) = refl
-same_kind lower (Known k) = refl
-same_kind lower (Clique k) = refl
-same_kind lower (State set side) = refl
-same_kind lower (Both left right) = refl
-same_kind lower (Either left right) = refl
-
--- a rule of one of these kinds is of no other
-other_kind : (kinds : List ℕ) (rule : Rule) → OneOf kinds (tag_of the_type rule) → (lower : ℕ → Policy) (policy : Policy) → T (not (has_key kinds (kind_of policy)))
-    → policy_of_rule lower rule ≡ policy → ⊥
-other_kind kinds rule h lower policy n e = miss kinds (kind_of policy) n (rw (same_kind lower rule, e) at h)
-
-abbrev pub not_within : List ℕ
-not_within = 0 ∷ 1 ∷ 2 ∷ 4 ∷ 5 ∷ 6 ∷ 7 ∷ 8 ∷ []
-
-pub no_reach : (rule : Rule) → OneOf not_within (tag_of the_type rule) → Reach rule 0
-no_reach rule h = record { small = zero-le; most = λ lower p j f e. absurd (other_kind not_within rule h lower (within j) tt e); own = inl refl }
+pub no_reach : (rule : Rule) → ((k : ℕ) → rule ≡ Within k → ⊥) → Reach rule 0
+no_reach rule h = record { small = zero-le; most = λ lower p j f e. absurd (other lower rule h e); own = inl refl }
+  where
+    other : (lower : ℕ → Policy) {j : ℕ} (rule : Rule) → ((k : ℕ) → rule ≡ Within k → ⊥) → policy_of_rule lower rule ≡ within j → ⊥
+    other lower NoOne h e = cc
+    other lower Everyone h e = cc
+    other lower Owner h e = cc
+    other lower (Within k) h e = h k refl
+    other lower (Known k) h e = cc
+    other lower (Clique k) h e = cc
+    other lower (State set side) h e = cc
+    other lower (Both left right) h e = cc
+    other lower (Either left right) h e = cc
 
 pub own_reach : (k : ℕ) → k ≤ 255 → Reach (Within k) k
 own_reach k s = record {

@@ -1,4 +1,7 @@
 // What policies read of an accessor, computed once for all owners.
+
+#![tactic(auto)]
+
 ghost use Rattle.std.specs.Prelude.{◌≡◌, ◌<◌, ◌≤◌, length};
 ghost use Rattle.model.specs.Decides.{Decides};
 ghost use Rattle.tables.specs.Read.{ReadAs};

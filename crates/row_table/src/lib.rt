@@ -1,4 +1,7 @@
 // The friend rows of all members, and one of them off the table or without it.
+
+#![tactic(auto)]
+
 ghost use Rattle.std.specs.Prelude.{◌≡◌, ℕ, ◌<◌, length, get_or};
 ghost use Rattle.network.specs.Ready.{Ready, graph_of};
 ghost use Rattle.sets.specs.Rows.{FriendRow, AllRows};

@@ -1,4 +1,7 @@
 // Friend rows.
+
+#![tactic(auto)]
+
 ghost use Rattle.std.specs.Prelude.{◌≡◌, ℕ, ◌+◌, ◌<◌, ◌≤◌, length, get_or};
 ghost use Rattle.network.specs.Ready.{Ready, graph_of};
 ghost use Rattle.sets.specs.Rows.{FriendRow};

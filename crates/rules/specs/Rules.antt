@@ -1,6 +1,6 @@
 -- Policies as the code has them.
 use Rattle.std.specs.Prelude.{ℕ, ◌≤◌, ◌<◌, ◌≡◌, List}
-use Rattle.model.specs.Policies.{Policy, no_one, everyone, owner-only, within, known, clique, state, both, either}
+use Rattle.model.specs.Policies.{Policy, no_one, everyone, owner_only, within, known, clique, state, both, either}
 use Rattle.model.specs.SchemeBytes.{side_of, policy_of, PolicyFits, scheme_of}
 use Rattle.rules.specs.declared.Rule.{Rule}
 use Rattle.rules.specs.declared.Rule.TheVariants.{NoOne, Everyone, Owner, Within, Known, Clique, State, Both, Either}
@@ -9,7 +9,7 @@ use Rattle.rules.specs.declared.Rule.TheVariants.{NoOne, Everyone, Owner, Within
 abbrev pub policy_of_rule : (ℕ → Policy) → Rule → Policy
 policy_of_rule lower NoOne = no_one
 policy_of_rule lower Everyone = everyone
-policy_of_rule lower Owner = owner-only
+policy_of_rule lower Owner = owner_only
 policy_of_rule lower (Within k) = within k
 policy_of_rule lower (Known k) = known k
 policy_of_rule lower (Clique k) = clique k
@@ -21,7 +21,7 @@ policy_of_rule lower (Either left right) = either (lower left) (lower right)
 abbrev pub kind_of : Policy → ℕ
 kind_of no_one = 0
 kind_of everyone = 1
-kind_of owner-only = 2
+kind_of owner_only = 2
 kind_of (within k) = 3
 kind_of (known k) = 4
 kind_of (clique k) = 5

@@ -1,4 +1,7 @@
 // Whether a network passes 5.
+
+#![tactic(auto)]
+
 ghost use Rattle.std.specs.Prelude.{◌≡◌, true, ◌↔◌, ℕ, ◌+◌, ◌*◌, ◌<◌, ◌≤◌, length};
 ghost use Rattle.model.specs.Decides.{Decides};
 ghost use Rattle.model.specs.Bytes.{bit, byte};

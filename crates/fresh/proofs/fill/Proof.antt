@@ -10,61 +10,61 @@ use Rattle.network.proofs.Reading.{stride_next}
 use Rattle.fresh.proofs.fill.Statement.{statement}
 use Rattle.fresh.proofs.fill.Tie as tie
 
-abbrev invariant-loop : tie.invariant-loop
+abbrev invariant-loop : tie.invariant-loop-m
 invariant-loop scheme c network₀ from resources at₀ m₀ network at m =
     (m ≤ c.members) × (at ≡ from + m * resources) × AllFilled (scheme_of scheme) network₀ from m resources network
 
-abbrev decreases-loop : tie.decreases-loop
+abbrev decreases-loop : tie.decreases-loop-m
 decreases-loop scheme c network₀ from resources at₀ m₀ network at m = c.members - m
 
-resources-requires : tie.Need-resources-requires invariant-loop decreases-loop
+resources-requires : tie.Need-resources-resources-requires invariant-loop decreases-loop
 resources-requires c κs = search rules
 
-loop-holds : tie.Need-loop-init invariant-loop decreases-loop
+loop-holds : tie.Need-loop-m-init invariant-loop decreases-loop
 loop-holds c =
-    let a = c.before.before.before.args in
-    (omega arith, omega arith, all_none (scheme_of a.scheme.now) a.network.now a.from c.resources.result)
+    let a = c.args in
+    (omega arith, omega arith, all_none (scheme_of a.scheme.now) a.network.now a.from c.resources-resources.result)
 
-next : (c : tie.Then1 invariant-loop decreases-loop)
-    → let a = c.before.before.before.before.before.before.args in
-    let l = c.before.before.loop in
-    let k = c.before.before.before.resources.result in
+next : (c : tie.In-loop-m invariant-loop decreases-loop)
+    → let a = c.args in
+    let l = c.loop-m in
+    let k = c.resources-resources.result in
     (l.at + k ≡ a.from + (l.m + 1) * k) × (l.at + k ≤ length a.network.now)
 next c =
-    let a = c.before.before.before.before.before.before.args in
-    let k = c.before.before.before.resources in
-    let e : a.from + a.c.members * k.result ≤ length a.network.now = rw k.ensures.0 c.before.before.before.before.before.before.requires.1 in
-    let n = stride_next a.from k.result c.before.before.loop.m a.c.members c.before.before.loop.invariant.1 c.if1.true in
+    let a = c.args in
+    let k = c.resources-resources in
+    let e : a.from + a.c.members * k.result ≤ length a.network.now = rw k.ensures.0 c.requires.1 in
+    let n = stride_next a.from k.result c.loop-m.m a.c.members c.loop-m.invariant.1 c.loop-m-test.true in
     (n.0, omega (arith, n.1))
 
-fill-member-requires : tie.Need-fill-member-requires invariant-loop decreases-loop
-fill-member-requires c κs = (c.before.before.before.before.before.before.before.requires.0, omega (arith, next c.before))
+fill-member-requires : tie.Need-fill_member-requires invariant-loop decreases-loop
+fill-member-requires c κs = (c.requires.0, omega (arith, next c.before))
 
-add_at : tie.Need-overflow-add-at invariant-loop decreases-loop
+add_at : tie.Need-overflow_add-at invariant-loop decreases-loop
 add_at c = omega (arith, next c.before.before.before.before)
 
-add-m : tie.Need-overflow-add-m invariant-loop decreases-loop
+add-m : tie.Need-overflow_add-m invariant-loop decreases-loop
 add-m c = omega arith
 
-loop-less : tie.Need-loop-smaller invariant-loop decreases-loop
+loop-less : tie.Need-loop-m-smaller invariant-loop decreases-loop
 loop-less c = omega arith
 
-loop-again : tie.Need-loop-preserved invariant-loop decreases-loop
+loop-again : tie.Need-loop-m-preserved invariant-loop decreases-loop
 loop-again c =
-    let a = c.before.before.before.before.before.before.before.before.before.before.args in
-    let l = c.before.before.before.before.before.before.loop in
-    let m = rw (l.invariant.1, ← c.before.before.before.before.before.before.before.resources.ensures.0) at c.before.before.fill-member.ensures in
+    let a = c.args in
+    let l = c.loop-m in
+    let m = rw (l.invariant.1, ← c.resources-resources.ensures.0) at c.fill_member.ensures in
     (omega arith, (next c.before.before.before.before).0, all_more (scheme_of a.scheme.now) l.invariant.2 m)
 
-same_length : tie.Need-same-length invariant-loop decreases-loop
+same_length : tie.Need-shape_of-network invariant-loop decreases-loop
 same_length c = omega arith
 
 returns : tie.Need-returns invariant-loop decreases-loop
 returns c =
-    let a = c.before.before.before.before.before.before.args in
-    let l = c.before.before.loop in
+    let a = c.args in
+    let l = c.loop-m in
     let e : l.m ≡ a.c.members = omega arith in
-    rw (e, c.before.before.before.resources.ensures.0) at l.invariant.2
+    rw (e, c.resources-resources.ensures.0) at l.invariant.2
 
 pub fill_spec : {M : Type 1} → statement M
 fill_spec =

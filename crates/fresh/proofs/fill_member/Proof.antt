@@ -9,57 +9,57 @@ use Rattle.fresh.proofs.Filling.{member_none, member_more}
 use Rattle.fresh.proofs.fill_member.Statement.{statement}
 use Rattle.fresh.proofs.fill_member.Tie as tie
 
-abbrev invariant-loop : tie.invariant-loop
+abbrev invariant-loop : tie.invariant-loop-r
 invariant-loop scheme c network₀ at resources r₀ network r = (r ≤ resources) × MemberFilled (scheme_of scheme) network₀ at r network
 
-abbrev decreases-loop : tie.decreases-loop
+abbrev decreases-loop : tie.decreases-loop-r
 decreases-loop scheme c network₀ at resources r₀ network r = resources - r
 
-resources-requires : tie.Need-resources-requires invariant-loop decreases-loop
+resources-requires : tie.Need-resources-resources-requires invariant-loop decreases-loop
 resources-requires c κs = search rules
 
-loop-holds : tie.Need-loop-init invariant-loop decreases-loop
+loop-holds : tie.Need-loop-r-init invariant-loop decreases-loop
 loop-holds c =
-    let a = c.before.before.before.args in
+    let a = c.args in
     (omega arith, member_none (scheme_of a.scheme.now) a.network.now a.at)
 
-mask-requires : tie.Need-mask-requires invariant-loop decreases-loop
+mask-requires : tie.Need-mask-mask-requires invariant-loop decreases-loop
 mask-requires c κs = search rules
 
 lowest-requires : tie.Need-lowest-requires invariant-loop decreases-loop
 lowest-requires c κs = omega arith
 
-cast-network : tie.Need-overflow-cast-network invariant-loop decreases-loop
+cast-network : tie.Need-overflow_cast-network invariant-loop decreases-loop
 cast-network c = omega arith
 
-add-network : tie.Need-overflow-add-network invariant-loop decreases-loop
+add-network : tie.Need-overflow_add-network invariant-loop decreases-loop
 add-network c = omega arith
 
-slice-write-network : tie.Need-slice-write-network invariant-loop decreases-loop
+slice-write-network : tie.Need-bounds-network-at invariant-loop decreases-loop
 slice-write-network c = omega arith
 
-add_r : tie.Need-overflow-add-r invariant-loop decreases-loop
+add_r : tie.Need-overflow_add-r invariant-loop decreases-loop
 add_r c = omega arith
 
-loop-less : tie.Need-loop-smaller invariant-loop decreases-loop
+loop-less : tie.Need-loop-r-smaller invariant-loop decreases-loop
 loop-less c = omega arith
 
-loop-again : tie.Need-loop-preserved invariant-loop decreases-loop
+loop-again : tie.Need-loop-r-preserved invariant-loop decreases-loop
 loop-again c =
-    let s = scheme_of c.before.before.before.before.before.before.before.args.scheme.now in
-    (omega arith, member_more s (omega arith) (c.lowest.ensures.0 ∙ ap lowest c.before.mask.ensures.0) c.before.before.before.loop.invariant.1)
+    let s = scheme_of c.args.scheme.now in
+    (omega arith, member_more s (omega arith) (c.lowest.ensures.0 ∙ ap lowest c.mask-mask.ensures.0) c.loop-r.invariant.1)
 
-same_length : tie.Need-same-length invariant-loop decreases-loop
+same_length : tie.Need-shape_of-network invariant-loop decreases-loop
 same_length c = omega arith
 
 returns : tie.Need-returns invariant-loop decreases-loop
 returns c =
-    let k = c.before.before.before.before.before.args.c in
-    let e : c.before.loop.r ≡ 2 + k.primitives + k.items = omega arith in
-    rw e at c.before.loop.invariant.1
+    let k = c.args.c in
+    let e : c.loop-r.r ≡ 2 + k.primitives + k.items = omega arith in
+    rw e at c.loop-r.invariant.1
 
-pub fill-member-spec : {M : Type 1} → statement M
-fill-member-spec =
+pub fill_member_spec : {M : Type 1} → statement M
+fill_member_spec =
     tie.close
     (tie.spec
     invariant-loop

@@ -6,40 +6,40 @@ use Rattle.friend_flags.proofs.Packing.{packed_none, packed_more}
 use Rattle.friend_flags.proofs.word.Statement.{statement}
 use Rattle.friend_flags.proofs.word.Tie as tie
 
-abbrev invariant-loop : tie.invariant-loop
+abbrev invariant-loop : tie.invariant-loop-m
 invariant-loop flags at bits₀ m₀ bits m = Packed flags at m bits × (m ≤ 64) × (m % 8 ≡ 0)
 
-abbrev decreases-loop : tie.decreases-loop
+abbrev decreases-loop : tie.decreases-loop-m
 decreases-loop flags at bits₀ m₀ bits m = 64 - m
 
-loop-holds : tie.Need-loop-init invariant-loop decreases-loop
+loop-holds : tie.Need-loop-m-init invariant-loop decreases-loop
 loop-holds c = (packed_none _ _, omega arith, omega arith)
 
-add_eight : tie.Need-overflow-add-eight invariant-loop decreases-loop
+add_eight : tie.Need-overflow_add-at invariant-loop decreases-loop
 add_eight c = omega arith
 
 eight-requires : tie.Need-eight-requires invariant-loop decreases-loop
-eight-requires c κs = (omega arith, c.before.before.before.requires.1)
+eight-requires c κs = (omega arith, c.requires.1)
 
-shl-bits : tie.Need-overflow-shl-bits invariant-loop decreases-loop
+shl-bits : tie.Need-overflow_shl-bits invariant-loop decreases-loop
 shl-bits c = omega arith
 
-add-m : tie.Need-overflow-add-m invariant-loop decreases-loop
+add-m : tie.Need-overflow_add-m invariant-loop decreases-loop
 add-m c = omega arith
 
-loop-less : tie.Need-loop-smaller invariant-loop decreases-loop
+loop-less : tie.Need-loop-m-smaller invariant-loop decreases-loop
 loop-less c = omega arith
 
-loop-again : tie.Need-loop-preserved invariant-loop decreases-loop
-loop-again c = (packed_more _ _ c.before.before.loop.m _ _ (omega arith) c.before.before.loop.invariant.0 c.eight.ensures, omega arith, omega arith)
+loop-again : tie.Need-loop-m-preserved invariant-loop decreases-loop
+loop-again c = (packed_more _ _ c.loop-m.m _ _ (omega arith) c.loop-m.invariant.0 c.eight.ensures, omega arith, omega arith)
 
 returns : tie.Need-returns invariant-loop decreases-loop
 returns c =
-    let e : c.before.loop.m ≡ 64 = omega arith in
-    rw e at c.before.loop.invariant.0
+    let e : c.loop-m.m ≡ 64 = omega arith in
+    rw e at c.loop-m.invariant.0
 
-pub word-spec : {M : Type 1} → statement M
-word-spec =
+pub word_spec : {M : Type 1} → statement M
+word_spec =
     tie.close
     (tie.spec
     invariant-loop

@@ -9,78 +9,78 @@ use Rattle.lower_rows.proofs.Lowering.{row_inside, row_small, flags_below, lower
 use Rattle.lower_rows.proofs.fill.Statement.{statement}
 use Rattle.lower_rows.proofs.fill.Tie as tie
 
-abbrev invariant-loop : tie.invariant-loop
+abbrev invariant-loop : tie.invariant-loop-m
 invariant-loop scheme c network from end flags₀ columns₀ rows₀ m₀ flags columns rows m = LowerRows (graph_of scheme network) from m rows₀ flags columns rows × (from ≤ m) × (m ≤ end)
 
-abbrev decreases-loop : tie.decreases-loop
+abbrev decreases-loop : tie.decreases-loop-m
 decreases-loop scheme c network from end flags₀ columns₀ rows₀ m₀ flags columns rows m = end - m
 
-loop-holds : tie.Need-loop-init invariant-loop decreases-loop
+loop-holds : tie.Need-loop-m-init invariant-loop decreases-loop
 loop-holds c =
-    let p = c.before.before.before.before.before.requires in
+    let p = c.requires in
     (lower_none p.4 p.5, omega arith, p.1)
 
 pairs-requires : tie.Need-pairs-requires invariant-loop decreases-loop
-pairs-requires c κs = omega (arith, ready_range c.before.before.before.before.before.before.before.requires.0)
+pairs-requires c κs = omega (arith, ready_range c.requires.0)
 
 mark-requires : tie.Need-mark-requires invariant-loop decreases-loop
 mark-requires c κs =
-    let s = c.before.before.before.before.before.before.before.before.before in
-    let i = c.before.before.before.loop in
-    let e = c.before.pairs.ensures.0 in
+    let s = c in
+    let i = c.loop-m in
+    let e = c.pairs.ensures.0 in
     (row_inside s.requires.0 (omega arith) e, omega (arith, ready_range s.requires.0, i.invariant.0.flagged.long), row_small s.requires.0 (omega arith) e)
 
 row-requires : tie.Need-row-requires invariant-loop decreases-loop
 row-requires c κs =
-    let s = c.before.before.before.before.before.before.before.before.before.before.before.before.before.before in
-    flags_below s.requires.0 (omega arith) c.before.before.before.before.before.before.pairs.ensures.0 c.before.before.before.before.before.before.before.before.loop.invariant.0.flagged c.before.before.before.before.mark.ensures
+    let s = c in
+    flags_below s.requires.0 (omega arith) c.pairs.ensures.0 c.loop-m.invariant.0.flagged c.mark.ensures
 
-put-row-requires : tie.Need-put-row-requires invariant-loop decreases-loop
-put-row-requires c κs = omega (arith, ready_range c.before.before.before.before.before.before.before.before.before.before.before.before.before.before.before.requires.0, c.before.before.before.before.before.before.before.before.before.loop.invariant.0.long, c.before.before.before.before.before.before.before.before.before.before.before.before.before.before.before.requires.6)
+put-row-requires : tie.Need-put_row-requires invariant-loop decreases-loop
+put-row-requires c κs = omega (arith, ready_range c.requires.0, c.loop-m.invariant.0.long, c.requires.6)
 
-sub-add : tie.Need-overflow-sub-add invariant-loop decreases-loop
+sub-add : tie.Need-overflow_sub-m invariant-loop decreases-loop
 sub-add c = search rules
 
 add-requires : tie.Need-add-requires invariant-loop decreases-loop
 add-requires c κs =
-    let s = c.before.before.before.before.before.before.before.before.before.before.before.before.before.before.before.before.before.before.before.before in
-    let i = c.before.before.before.before.before.before.before.before.before.before.before.before.before.before.loop in
-    let l = c.before.before.before.before.before.before.before.before.before.before.before.before.before.loop-test.true in
-    let f = flags_below s.requires.0 (omega (arith, l, s.requires.3)) c.before.before.before.before.before.before.before.before.before.before.before.before.pairs.ensures.0 i.invariant.0.flagged c.before.before.before.before.before.before.before.before.before.before.mark.ensures in
+    let s = c in
+    let i = c.loop-m in
+    let l = c.loop-m-test.true in
+    let f = flags_below s.requires.0 (omega (arith, l, s.requires.3)) c.pairs.ensures.0 i.invariant.0.flagged c.mark.ensures in
     (f.long, i.invariant.0.told.long, omega (arith, l, s.requires.2), omega (arith, l, s.requires.3, ready_range s.requires.0), f.none_above)
 
-add-m : tie.Need-overflow-add-m invariant-loop decreases-loop
+add-m : tie.Need-overflow_add-m invariant-loop decreases-loop
 add-m c = search rules
 
-loop-less : tie.Need-loop-smaller invariant-loop decreases-loop
+loop-less : tie.Need-loop-m-smaller invariant-loop decreases-loop
 loop-less c = search rules
 
-loop-again : tie.Need-loop-preserved invariant-loop decreases-loop
+loop-again : tie.Need-loop-m-preserved invariant-loop decreases-loop
 loop-again c =
-    let s = c.before.before.before.before.before.before.before.before.before.before.before.before.before.before.before.before.before.before.before.before.before.before.before in
-    let i = c.before.before.before.before.before.before.before.before.before.before.before.before.before.before.before.before.before.loop in
-    let l = c.before.before.before.before.before.before.before.before.before.before.before.before.before.before.before.before.loop-test.true in (
-      lower_more s.requires.0 (omega (arith, l, s.requires.3)) c.before.before.before.before.before.before.before.before.before.before.before.before.before.before.before.pairs.ensures.0 i.invariant.0.flagged c.before.before.before.before.before.before.before.before.before.before.before.before.before.mark.ensures i.invariant.1 (omega (arith, l, s.requires.2)) i.invariant.0
-          c.before.before.before.before.before.before.before.before.row.ensures
-          c.before.before.before.before.before.before.before.put-row.ensures
-          c.before.before.add.ensures,
+    let s = c in
+    let i = c.loop-m in
+    let l = c.loop-m-test.true in (
+      lower_more s.requires.0 (omega (arith, l, s.requires.3)) c.pairs.ensures.0 i.invariant.0.flagged c.mark.ensures i.invariant.1 (omega (arith, l, s.requires.2)) i.invariant.0
+          c.row.ensures
+          c.put_row.ensures
+          c.add.ensures,
       omega (arith, i.invariant.1),
       omega (arith, l),
     )
 
-same_length : tie.Need-same-length invariant-loop decreases-loop
-same_length c = c.before.loop.invariant.0.flagged.long ∙ sym c.before.before.before.before.before.before.before.requires.4.long
+same_length : tie.Need-shape_of-flags invariant-loop decreases-loop
+same_length c = c.loop-m.invariant.0.flagged.long ∙ sym c.requires.4.long
 
-same-length-2 : tie.Need-same-length-2 invariant-loop decreases-loop
-same-length-2 c = c.before.loop.invariant.0.told.long ∙ sym c.before.before.before.before.before.before.before.requires.5.long
+same-length-2 : tie.Need-shape_of-columns invariant-loop decreases-loop
+same-length-2 c = c.loop-m.invariant.0.told.long ∙ sym c.requires.5.long
 
-same-length-3 : tie.Need-same-length-3 invariant-loop decreases-loop
-same-length-3 c = c.before.loop.invariant.0.long
+same-length-3 : tie.Need-shape_of-rows invariant-loop decreases-loop
+same-length-3 c = c.loop-m.invariant.0.long
 
 returns : tie.Need-returns invariant-loop decreases-loop
 returns c =
-    let e : c.before.loop.m ≡ c.before.before.before.before.before.before.before.args.end = omega arith in
-    rw (← e) c.before.loop.invariant.0
+    let e : c.loop-m.m ≡ c.args.end = omega arith in
+    rw (← e) c.loop-m.invariant.0
 
 pub fill_spec : {M : Type 1} → statement M
 fill_spec =

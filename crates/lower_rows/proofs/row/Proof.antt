@@ -17,12 +17,12 @@ word-requires-4 c κs = search rules
 
 returns : tie.Need-returns
 returns c =
-    let x = c.before.before.before.word in
-    let y = c.before.before.word2 in
-    let z = c.before.word3 in
-    let w = c.word4 in
-    four_words c.before.before.before.before.before.args.flags.now x.result y.result z.result w.result x.ensures y.ensures z.ensures w.ensures
+    let x = c.word in
+    let y = c.word-2 in
+    let z = c.word-3 in
+    let w = c.word-4 in
+    four_words c.args.flags.now x.result y.result z.result w.result x.ensures y.ensures z.ensures w.ensures
 
-pub row-spec : {M : Type 1} → statement M
-row-spec =
+pub row_spec : {M : Type 1} → statement M
+row_spec =
     tie.close (tie.spec word-requires word-requires-2 word-requires-3 word-requires-4 returns)

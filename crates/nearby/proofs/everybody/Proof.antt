@@ -8,5 +8,5 @@ returns : tie.Need-returns
 unfolding every
 returns c = every_holds _ 256 refl
 
-pub everybody-spec : {M : Type 1} → statement M
-everybody-spec = tie.close (tie.spec returns)
+pub everybody_spec : {M : Type 1} → statement M
+everybody_spec = tie.close (tie.spec returns)

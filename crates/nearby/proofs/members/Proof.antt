@@ -11,14 +11,14 @@ use Rattle.nearby.proofs.Nearby.{Around, near_everybody, around_next, near_all}
 use Rattle.nearby.proofs.members.Statement.{statement}
 use Rattle.nearby.proofs.members.Tie as tie
 
-abbrev invariant-loop : tie.invariant-loop
+abbrev invariant-loop : tie.invariant-loop-m
 invariant-loop scheme c network friends all₀ m₀ all m = Passed friends m (Around (graph_of scheme network) all)
 
-abbrev decreases-loop : tie.decreases-loop
+abbrev decreases-loop : tie.decreases-loop-m
 decreases-loop scheme c network friends all₀ m₀ all m = 256 - m
 
 -- where the function begins
-abbrev start : tie.At-loop invariant-loop decreases-loop → tie.Start invariant-loop decreases-loop
+abbrev start : tie.At-loop-m invariant-loop decreases-loop → tie.Start invariant-loop decreases-loop
 start a = a.before.before.before.before.before.before.before
 
 few : (s : tie.Start invariant-loop decreases-loop) → (graph_of s.args.scheme.now s.args.network.now).members ≤ 256
@@ -27,55 +27,55 @@ few s = omega (arith, s.requires.counts.members, ready_range s.requires)
 shared-requires : tie.Need-shared-requires invariant-loop decreases-loop
 shared-requires c κs = search rules
 
-cast-if1 : tie.Need-overflow-cast-if1 invariant-loop decreases-loop
+cast-if1 : tie.Need-overflow_cast-shared invariant-loop decreases-loop
 cast-if1 c = search rules
 
-add-if1 : tie.Need-overflow-add-if1 invariant-loop decreases-loop
-add-if1 c = omega (arith, ready_range c.before.before.before.before.requires)
+add-if1 : tie.Need-overflow_add-c invariant-loop decreases-loop
+add-if1 c = omega (arith, ready_range c.requires)
 
 everybody-requires : tie.Need-everybody-requires invariant-loop decreases-loop
 everybody-requires c κs = search rules
 
-returns : tie.Need-returns invariant-loop decreases-loop
+returns : tie.Need-returns-then-shared-c invariant-loop decreases-loop
 returns c = λ v own. near_everybody (few c.before.before.before.before.before.before) c.everybody.ensures v
 
-first-from-requires : tie.Need-first-from-requires invariant-loop decreases-loop
+first-from-requires : tie.Need-first_from-m-requires invariant-loop decreases-loop
 first-from-requires c κs = search rules
 
-loop-holds : tie.Need-loop-init invariant-loop decreases-loop
-loop-holds c = passed_none c.first-from.ensures
+loop-holds : tie.Need-loop-m-init invariant-loop decreases-loop
+loop-holds c = passed_none c.first_from-m.ensures
 
-friend-row-requires : tie.Need-friend-row-requires invariant-loop decreases-loop
+friend-row-requires : tie.Need-friend_row-requires invariant-loop decreases-loop
 friend-row-requires c κs = search rules
 
-join-requires : tie.Need-join-requires invariant-loop decreases-loop
+join-requires : tie.Need-join-more-requires invariant-loop decreases-loop
 join-requires c κs = search rules
 
-add-first-from : tie.Need-overflow-add-first-from invariant-loop decreases-loop
+add-first-from : tie.Need-overflow_add-m invariant-loop decreases-loop
 add-first-from c = omega arith
 
-first-from-requires-2 : tie.Need-first-from-requires-2 invariant-loop decreases-loop
+first-from-requires-2 : tie.Need-first_from-m-requires-in-loop-m invariant-loop decreases-loop
 first-from-requires-2 c κs = search rules
 
-loop-less : tie.Need-loop-smaller invariant-loop decreases-loop
+loop-less : tie.Need-loop-m-smaller invariant-loop decreases-loop
 loop-less c =
-    let n = ready_range (start c.before.before.before.before.before).pre in
-    omega (arith, c.first-from2.ensures.later (omega arith))
+    let n = ready_range (start c.before.before.before.before.before).requires in
+    omega (arith, c.first_from-m-in-loop-m.ensures.later (omega arith))
 
-loop-again : tie.Need-loop-preserved invariant-loop decreases-loop
+loop-again : tie.Need-loop-m-preserved invariant-loop decreases-loop
 loop-again c =
     let a = c.before.before.before.before.before in
-    around_next (few (start a)) a.loop.invariant c.before.before.friend_row.ensures c.before.join.ensures c.first-from2.ensures
+    around_next (few (start a)) a.loop-m.invariant c.friend_row.ensures c.join-more.ensures c.first_from-m-in-loop-m.ensures
 
-returns-2 : tie.Need-returns-2 invariant-loop decreases-loop
+returns-2 : tie.Need-returns invariant-loop decreases-loop
 returns-2 c =
     let a = c.before.before in
     let s = start a in
     let b = scheme_of s.args.scheme.now in
-    near_all (few s) (friends_comm b (held b s.args.network.now)) a.loop.invariant (omega (arith, s.pre.counts.members))
+    near_all (few s) (friends_comm b (held b s.args.network.now)) a.loop-m.invariant (omega (arith, s.requires.counts.members))
 
-pub members-spec : {M : Type 1} → statement M
-members-spec =
+pub members_spec : {M : Type 1} → statement M
+members_spec =
     tie.close
     (tie.spec
     invariant-loop

@@ -1,6 +1,5 @@
 use Prim.Native.Nat.{◌+◌, ◌-◌, ◌≤◌}
 use mathlib.Core.Path.{◌≡◌}
-use mathlib.Core.Logic.{⊎_elim}
 use native.Mathlib.Omega.{arith}
 use Rattle.model.specs.Network.{pairs}
 use Rattle.network.specs.Ready.{graph_of}
@@ -8,80 +7,84 @@ use Rattle.next_friend.proofs.Passing.{Passed, pass_none, pass_seen, pass_strang
 use Rattle.network.proofs.Reading.{ready_range, pairs_small, pairs_more, pair_inside, friends_byte}
 use borrow.Author.Rules.{rules}
 use Rattle.next_friend.proofs.above.Statement.{statement}
+use Rattle.next_friend.proofs.above.Lts.{then-marked+else-seen-k-eq0, else-marked}
 use Rattle.next_friend.proofs.above.Tie as tie
 
-abbrev invariant-loop : tie.invariant-loop
+abbrev invariant-loop : tie.invariant-loop-k
 invariant-loop scheme c network m seen from at₀ k₀ at k = (k ≤ c.members) × (at ≡ pairs k + m) × Passed (graph_of scheme network) m seen from k
 
-abbrev decreases-loop : tie.decreases-loop
+abbrev decreases-loop : tie.decreases-loop-k
 decreases-loop scheme c network m seen from at₀ k₀ at k = c.members - k
 
 -- where the function begins
-abbrev start : tie.At-loop invariant-loop decreases-loop → tie.Start invariant-loop decreases-loop
+abbrev start : tie.At-loop-k invariant-loop decreases-loop → tie.Start invariant-loop decreases-loop
 start a = a.before.before.before.before.before
 
 pairs-requires : tie.Need-pairs-requires invariant-loop decreases-loop
-pairs-requires c κs = omega (arith, ready_range c.before.before.before.requires.0)
+pairs-requires c κs = omega (arith, ready_range c.requires.0)
 
-add_at : tie.Need-overflow-add-at invariant-loop decreases-loop
-add_at c = omega (arith, ready_range c.before.before.before.before.requires.0)
+add_at : tie.Need-overflow_add-at invariant-loop decreases-loop
+add_at c = omega (arith, ready_range c.requires.0)
 
-loop-holds : tie.Need-loop-init invariant-loop decreases-loop
+loop-holds : tie.Need-loop-k-init invariant-loop decreases-loop
 loop-holds c = (omega arith, omega (arith, c.pairs.ensures.0), pass_none)
 
-shared-slice-read-marked : tie.Need-shared-slice-read-marked invariant-loop decreases-loop
+shared-slice-read-marked : tie.Need-bounds-network-at invariant-loop decreases-loop
 shared-slice-read-marked c =
     let a = c.before.before.before in
-    omega (arith, a.loop.invariant.1, pair_inside (start a).requires.0 (start a).args.m a.loop.k (omega (arith, a.loop.invariant.2.onward)) c.before.if1.true)
+    omega (arith, a.loop-k.invariant.1, pair_inside (start a).requires.0 (start a).args.m a.loop-k.k (omega (arith, a.loop-k.invariant.2.onward)) c.loop-k-test.true)
 
 marked-requires : tie.Need-marked-requires invariant-loop decreases-loop
 marked-requires c κs = search rules
 
 -- whether k is a friend
 says : (c : tie.After-marked invariant-loop decreases-loop)
-    → c.marked.result ≡ (graph_of (start c.before.before.before.before).args.scheme.now (start c.before.before.before.before).args.network.now).friends (start c.before.before.before.before).args.m c.before.before.before.before.loop.k
+    → c.marked.result ≡ (graph_of (start c.before.before.before.before).args.scheme.now (start c.before.before.before.before).args.network.now).friends (start c.before.before.before.before).args.m c.loop-k.k
 says c =
     let a = c.before.before.before.before in
     let s = start a in
-    (friends_byte s.pre.0 s.args.m a.loop.k _ (omega (arith, a.loop.invariant.2.onward)) c.before.before.if1.true a.loop.invariant.1 c.marked.ensures).0
+    (friends_byte s.requires.0 s.args.m a.loop-k.k _ (omega (arith, a.loop-k.invariant.2.onward)) c.loop-k-test.true a.loop-k.invariant.1 c.marked.ensures).0
 
-mul-if3 : tie.Need-overflow-mul-if3 invariant-loop decreases-loop
-mul-if3 c = omega (arith, ready_range (start c.before.before.before.before.before).pre.0)
+mul-if3 : tie.Need-offset_bounds-seen-k invariant-loop decreases-loop
+mul-if3 c = omega (arith, ready_range (start c.before.before.before.before.before).requires.0)
 
-shared-slice-read-if3 : tie.Need-shared-slice-read-if3 invariant-loop decreases-loop
+shared-slice-read-if3 : tie.Need-bounds-seen-k invariant-loop decreases-loop
 shared-slice-read-if3 c = omega arith
 
-returns : tie.Need-returns invariant-loop decreases-loop
+returns : tie.Need-returns-then-seen-k-eq0 invariant-loop decreases-loop
 returns c =
     let d = c.before.before.before in
-    pass_stop d.before.before.before.before.loop.invariant.2 (omega arith) (says d) c.before.before.if2.true c.if3.true
+    pass_stop d.loop-k.invariant.2 (omega arith) (says d) c.if-marked.true c.if-seen-k-eq0.true
 
-add-at-2 : tie.Need-overflow-add-at-2 invariant-loop decreases-loop
+add-at-2 : tie.Need-overflow_add-at-in-loop-k invariant-loop decreases-loop
 add-at-2 c =
     let a = c.before.before.before.before.before in
     let r = ready_range (start a).requires.0 in
-    omega (arith, r, a.loop.invariant.1, pairs_small a.loop.k (omega arith))
+    omega (arith, r, a.loop-k.invariant.1, pairs_small a.loop-k.k (omega arith))
 
-add-k : tie.Need-overflow-add-k invariant-loop decreases-loop
+add-k : tie.Need-overflow_add-k invariant-loop decreases-loop
 add-k c = omega arith
 
-loop-less : tie.Need-loop-smaller invariant-loop decreases-loop
+loop-less : tie.Need-loop-k-smaller invariant-loop decreases-loop
 loop-less c = omega arith
 
-loop-again : tie.Need-loop-preserved invariant-loop decreases-loop
+loop-again : tie.Need-loop-k-preserved invariant-loop decreases-loop
 loop-again c =
     let a = c.before.before.before.before.before in
-    let x = a.loop.invariant.2 in (
+    let x = a.loop-k.invariant.2 in (
       omega arith,
-      omega (arith, a.loop.invariant.1, pairs_more a.loop.k),
-      ⊎_elim (λ w. pass_seen x w.2.left) (λ w. pass_stranger x (says c.before) w.left) c.if2.branch,
+      omega (arith, a.loop-k.invariant.1, pairs_more a.loop-k.k),
+      elim c.if-marked.branch [
+        | then-marked+else-seen-k-eq0 w ↦ pass_seen x w.if-seen-k-eq0.false
+        | else-marked w ↦ pass_stranger x (says c.before) w.if-marked.false
+      ],
     )
 
-returns-2 : tie.Need-returns-2 invariant-loop decreases-loop
-returns-2 c = pass_end c.before.before.loop.invariant.2 (omega arith) (omega arith)
+returns-2 : tie.Need-returns invariant-loop decreases-loop
+returns-2 c = pass_end c.loop-k.invariant.2 (omega arith) (omega arith)
 
-pub above-spec : {M : Type 1} → statement M
-above-spec =
+pub above_spec : {M : Type 1} → statement M
+above_spec =
     tie.close
     (tie.spec
     invariant-loop

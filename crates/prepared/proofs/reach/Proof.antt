@@ -4,19 +4,18 @@ use borrow.Author.Rules.{rules}
 use Rattle.prepared.proofs.reach.Statement.{statement}
 use Rattle.prepared.proofs.reach.Tie as tie
 
-enum-known-rule : tie.Need-enum-known-rule
+enum-known-rule : tie.Need-enum_known-rule
 enum-known-rule c = search rules
 
 wide-requires : tie.Need-wide-requires
 wide-requires c κs = search rules
 
-returns : tie.Need-returns
+returns : tie.Need-returns-in-Within
 returns c =
-    let k = c.before.before.rule.given in
-    rw (k.1, ← c.wide.ensures.0) (own_reach c.wide.result (omega arith))
+    rw (c.in-Within.is, ← c.wide.ensures.0) (own_reach c.wide.result (omega arith))
 
-returns-2 : tie.Need-returns-2
-returns-2 c = no_reach c.before.args.rule c.match.keys2
+returns-2 : tie.Need-returns-in_default
+returns-2 c = no_reach c.args.rule c.in_default.not-Within
 
-pub reach-spec : {M : Type 1} → statement M
-reach-spec = tie.close (tie.spec enum-known-rule wide-requires returns returns-2)
+pub reach_spec : {M : Type 1} → statement M
+reach_spec = tie.close (tie.spec enum-known-rule wide-requires returns returns-2)

@@ -6,5 +6,5 @@ use Rattle.row_table.proofs.no_bytes.Tie as tie
 returns : tie.Need-returns
 returns c = (refl, all_zero 256)
 
-pub no-bytes-spec : {M : Type 1} → statement M
-no-bytes-spec = tie.close (tie.spec returns)
+pub no_bytes_spec : {M : Type 1} → statement M
+no_bytes_spec = tie.close (tie.spec returns)

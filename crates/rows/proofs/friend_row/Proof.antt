@@ -23,13 +23,13 @@ returns c =
     let s = c.before.before.before.before.before.before in
     let b = s.args.scheme.now in
     let net = s.args.network.now in
-    let x = c.before.before.before.word in
-    let y = c.before.before.word2 in
-    let z = c.before.word3 in
-    let w = c.word4 in
+    let x = c.word in
+    let y = c.word-2 in
+    let z = c.word-3 in
+    let w = c.word-4 in
     friend_row (graph_of b net) s.args.u x.result y.result z.result w.result (omega (arith, s.requires.0.counts, ready_range s.requires.0))
     (friends_outside b net s.args.u) x.ensures y.ensures z.ensures w.ensures
 
-pub friend-row-spec : {M : Type 1} → statement M
-friend-row-spec =
+pub friend_row_spec : {M : Type 1} → statement M
+friend_row_spec =
     tie.close (tie.spec word-requires word-requires-2 word-requires-3 word-requires-4 returns)

@@ -6,5 +6,5 @@ use Rattle.rows.proofs.no_flags.Tie as tie
 returns : tie.Need-returns
 returns c = (refl, all_zero 64)
 
-pub no-flags-spec : {M : Type 1} → statement M
-no-flags-spec = tie.close (tie.spec returns)
+pub no_flags_spec : {M : Type 1} → statement M
+no_flags_spec = tie.close (tie.spec returns)

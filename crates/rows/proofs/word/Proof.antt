@@ -10,37 +10,37 @@ use Rattle.rows.proofs.word.Tie as tie
 greater-requires : tie.Need-greater-requires
 greater-requires c κs = let s = c.before.before.before in (s.requires.0, omega arith, s.requires.2, omega arith, first_none _ _ _)
 
-returns : tie.Need-returns
+returns : tie.Need-returns-then-u-from
 returns c = search rules
 
-least-requires : tie.Need-least-requires
+least-requires : tie.Need-least-count-requires
 least-requires c κs = search rules
 
-lesser-requires : tie.Need-lesser-requires
+lesser-requires : tie.Need-lesser-bits-requires
 lesser-requires c κs = search rules
 
-returns-2 : tie.Need-returns-2
-returns-2 c = rw (← c.if2.true) c.before.lesser.ensures
+returns-2 : tie.Need-returns-then-count-eq64
+returns-2 c = rw (← c.if-count-eq64.true) c.lesser-bits.ensures
 
-add-greater : tie.Need-overflow-add-greater
+add-greater : tie.Need-overflow_add-count
 add-greater c = search rules
 
 greater-requires-2 : tie.Need-greater-requires-2
 greater-requires-2 c κs =
     let s = c.before.before.before.before.before.before in
-    let e : s.args.u ≡ s.args.from + c.before.before.least.result = omega arith in (
+    let e : s.args.u ≡ s.args.from + c.least-count.result = omega arith in (
       s.requires.0,
       omega arith,
       s.requires.2,
       omega arith,
-      first_skip c.before.lesser.ensures (friends_own s.args.scheme.now s.args.network.now _ _ e),
+      first_skip c.lesser-bits.ensures (friends_own s.args.scheme.now s.args.network.now _ _ e),
     )
 
-returns-3 : tie.Need-returns-3
+returns-3 : tie.Need-returns
 returns-3 c = search rules
 
-pub word-spec : {M : Type 1} → statement M
-word-spec =
+pub word_spec : {M : Type 1} → statement M
+word_spec =
     tie.close
     (tie.spec
     greater-requires

@@ -8,10 +8,10 @@ use Rattle.validity.proofs.column_offered.Tie as tie
 subset-requires : tie.Need-subset-requires
 subset-requires c κs = search rules
 
-returns : tie.Need-returns
+returns : tie.Need-returns-then-subset
 returns c =
     let s = c.before.before.before in
-    λ m l. said_yes c.if1.true c.before.subset.ensures _ (s.requires.1 m l)
+    λ m l. said_yes c.if-subset.true c.subset.ensures _ (s.requires.1 m l)
 
 chosen-requires : tie.Need-chosen-requires
 chosen-requires c κs =
@@ -21,9 +21,9 @@ chosen-requires c κs =
 subset-requires-2 : tie.Need-subset-requires-2
 subset-requires-2 c κs = search rules
 
-returns-2 : tie.Need-returns-2
-returns-2 c = decided {b = c.subset2.result} (chosen_in _ c.before.chosen.ensures (says c.subset2.ensures))
+returns-2 : tie.Need-returns
+returns-2 c = decided {b = c.subset-2.result} (chosen_in _ c.chosen.ensures (says c.subset-2.ensures))
 
-pub column-offered-spec : {M : Type 1} → statement M
-column-offered-spec =
+pub column_offered_spec : {M : Type 1} → statement M
+column_offered_spec =
     tie.close (tie.spec subset-requires returns chosen-requires subset-requires-2 returns-2)

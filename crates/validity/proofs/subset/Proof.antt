@@ -10,5 +10,5 @@ returns c =
     let mask = c.args.mask in
     decided (iff (λ e p h. subset_has set mask p e h) (has_subset set mask c.ranges.set.fits) (is_eq (bit_and set mask) set))
 
-pub subset-spec : {M : Type 1} → statement M
-subset-spec = tie.close (tie.spec returns)
+pub subset_spec : {M : Type 1} → statement M
+subset_spec = tie.close (tie.spec returns)

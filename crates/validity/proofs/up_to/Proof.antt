@@ -3,17 +3,17 @@ use borrow.Author.Rules.{rules}
 use Rattle.validity.proofs.up_to.Statement.{statement}
 use Rattle.validity.proofs.up_to.Tie as tie
 
-sub-result : tie.Need-overflow-sub-result
+sub-result : tie.Need-overflow_sub-result
 sub-result c = search rules
 
-cast-result : tie.Need-overflow-cast-result
+cast-result : tie.Need-overflow_cast-result
 cast-result c = search rules
 
-shr-result : tie.Need-overflow-shr-result
+shr-result : tie.Need-overflow_shr-result
 shr-result c = search rules
 
 returns : tie.Need-returns
 returns c = λ p. up_to c.args.most p c.requires
 
-pub up-to-spec : {M : Type 1} → statement M
-up-to-spec = tie.close (tie.spec sub-result cast-result shr-result returns)
+pub up_to_spec : {M : Type 1} → statement M
+up_to_spec = tie.close (tie.spec sub-result cast-result shr-result returns)
