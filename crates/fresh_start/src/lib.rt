@@ -10,7 +10,7 @@ use scheme::Reading;
 
 // Where the program stands: before the scheme check; at the place of a record, at its position, with a network of so many bytes; or
 // done.
-#[derive(Drop)]
+#[derive(Clone, Copy)]
 pub enum Stand {
     Start,
     At(usize, u16, usize),
@@ -18,7 +18,7 @@ pub enum Stand {
 }
 
 // Where the program stands, and how much of the buffer is used.
-#[derive(Drop)]
+#[derive(Clone, Copy)]
 pub struct Filled {
     pub stand: Stand,
     pub used: usize,

@@ -9,7 +9,13 @@ use std::io;
 use std::io::Read;
 
 // Reads a case and prints its lines; false at the end of the input.
-fn run_case<R: Read>(rt: &impl Print, input: &mut R, number: u64, scheme: &mut [u8], log: &mut [u8]) -> io::Result<bool> {
+fn run_case<R: Read>(
+    rt: &impl Print,
+    input: &mut R,
+    number: u64,
+    scheme: &mut [u8],
+    log: &mut [u8],
+) -> io::Result<bool> {
     let Part::Bytes(s) = cases::read_part(input, scheme) else {
         return Ok(false);
     };
@@ -28,7 +34,12 @@ fn run_case<R: Read>(rt: &impl Print, input: &mut R, number: u64, scheme: &mut [
 }
 
 // A proved loop has to end, and nothing says that the input does: the bound is one that no run reaches.
-fn run_cases<R: Read>(rt: &impl Print, input: &mut R, scheme: &mut [u8], log: &mut [u8]) -> io::Result<()> {
+fn run_cases<R: Read>(
+    rt: &impl Print,
+    input: &mut R,
+    scheme: &mut [u8],
+    log: &mut [u8],
+) -> io::Result<()> {
     for number in 1..1000000 {
         if !run_case(rt, input, number, scheme, log)? {
             return Ok(());
