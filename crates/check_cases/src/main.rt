@@ -44,11 +44,11 @@ fn print_valid(
 fn print_check(rt: &impl Print, number: u64, scheme: &[u8], network: &[u8]) -> io::Result<()> {
     let reading = scheme::check(scheme);
     print_start(rt, number, b" check")?;
-    printing::answer(rt, scheme::number(reading))?;
     let Reading::Accepted(counts) = reading else {
-        printing::end(rt)?;
-        return Ok(());
+        printing::answer(rt, scheme::number(reading))?;
+        return printing::end(rt);
     };
+    printing::answer(rt, scheme::number(Reading::Accepted(counts)))?;
     print_counts(rt, counts)?;
     printing::end(rt)?;
     print_valid(rt, number, scheme, counts, network)

@@ -16,7 +16,7 @@ use known::Acquaintance;
 use tables::Summary;
 
 // The distance; the acquaintance; and the members, at most 5, of the largest clique, where owner and accessor are two.
-#[derive(Clone, Copy)]
+#[derive(Drop)]
 pub struct Relation {
     pub distance: Distance,
     pub acquaintance: Acquaintance,
