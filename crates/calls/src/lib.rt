@@ -8,7 +8,7 @@ use kinds::Request;
 use requests::Listed;
 
 // A call's answer, and how many it wrote.
-#[derive(Drop)]
+#[derive(Clone, Copy)]
 pub struct Reply {
     pub answer: u8,
     pub count: usize,

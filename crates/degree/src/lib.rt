@@ -9,7 +9,7 @@ use scheme::Reading;
 use tables::Summary;
 
 // The call's answer: the least number of friendships, none, or the refusal's number.
-#[derive(Drop)]
+#[derive(Clone, Copy)]
 pub enum Told {
     Friendships(u16),
     None,

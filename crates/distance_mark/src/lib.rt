@@ -7,7 +7,7 @@ ghost use Rattle.model.specs.Decides.{Decides};
 ghost use Rattle.distance_mark.specs.Mark.{distance_at, AtMost};
 
 // The least number of friendships between two members, or more than the limit up to which they were counted.
-#[derive(Drop)]
+#[derive(Clone, Copy)]
 pub enum Distance {
     Friendships(u16),
     AboveLimit,

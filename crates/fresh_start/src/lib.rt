@@ -25,7 +25,7 @@ pub struct Filled {
 }
 
 // How a run starts: on a fresh network of so many bytes, or not, with the number that is printed.
-#[derive(Drop)]
+#[derive(Clone, Copy)]
 pub enum Start {
     Fresh(usize),
     Refused(u8),

@@ -2,7 +2,7 @@
 
 #![tactic(auto)]
 
-#[derive(Drop)]
+#[derive(Clone, Copy)]
 pub enum Request {
     // v uses primitive a towards u
     Event(usize, usize, usize),

@@ -13,7 +13,7 @@ ghost use Rattle.known.specs.Acquainted.{Acquainted};
 use tables::Summary;
 
 // Two members are one or friends; or else they share so many friends.
-#[derive(Drop)]
+#[derive(Clone, Copy)]
 pub enum Acquaintance {
     Close,
     Sharing(usize),

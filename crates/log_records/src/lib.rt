@@ -8,7 +8,7 @@ ghost use Rattle.log_records.specs.Read.{SaidAt, Read};
 use kinds::Request;
 
 // What the log reader answers: the request of the next record, 14, or that the log has ended.
-#[derive(Drop)]
+#[derive(Clone, Copy)]
 pub enum Answer {
     Asks(Request),
     Refused,
@@ -16,7 +16,7 @@ pub enum Answer {
 }
 
 // An answer, and the place afterwards.
-#[derive(Drop)]
+#[derive(Clone, Copy)]
 pub struct Step {
     pub answer: Answer,
     pub place: usize,

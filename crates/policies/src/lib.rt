@@ -1,4 +1,7 @@
 // Whom a setting admits (document 01, "Policies").
+
+#![tactic(auto)]
+
 ghost use Rattle.std.specs.Prelude.{◌≡◌, ◌⊎◌, ◌+◌, ◌<◌, ◌≤◌};
 ghost use Rattle.model.specs.Decides.{Decides};
 ghost use Rattle.model.specs.Graph.{Friends};

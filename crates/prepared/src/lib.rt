@@ -40,7 +40,7 @@ fn farthest(scheme: &[u8], c: Summary) -> usize
 }
 
 // Whether one of some policies is of kind known, and whether one is of kind clique.
-#[derive(Drop)]
+#[derive(Clone, Copy)]
 pub struct Kinds {
     pub known: bool,
     pub clique: bool,

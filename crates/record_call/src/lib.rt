@@ -6,7 +6,7 @@ use calls::Reply;
 use log_records::Answer;
 
 // The line of a record: an answer, how many friends were listed, and the next record's place; a 14; or none.
-#[derive(Drop)]
+#[derive(Clone, Copy)]
 pub enum Line {
     Next(u8, usize, usize),
     Last,

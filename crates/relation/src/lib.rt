@@ -1,4 +1,7 @@
 // What policies read of an owner and an accessor (document 01, "Policies", kinds 3 to 5).
+
+#![tactic(auto)]
+
 ghost use Rattle.std.specs.Prelude.{◌≡◌, true, ◌⊎◌, ◌<◌, ◌≤◌, length};
 ghost use Rattle.model.specs.Graph.{Friends};
 ghost use Rattle.model.specs.SchemeBytes.{P};
@@ -16,7 +19,7 @@ use known::Acquaintance;
 use tables::Summary;
 
 // The distance; the acquaintance; and the members, at most 5, of the largest clique, where owner and accessor are two.
-#[derive(Drop)]
+#[derive(Clone, Copy)]
 pub struct Relation {
     pub distance: Distance,
     pub acquaintance: Acquaintance,

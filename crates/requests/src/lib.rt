@@ -6,7 +6,7 @@ ghost use Rattle.requests.specs.Answered.{ListCalled};
 use scheme::Reading;
 
 // A list's answer: how many friends it wrote, or the refusal's number.
-#[derive(Drop)]
+#[derive(Clone, Copy)]
 pub enum Listed {
     Friends(usize),
     Refused(u8),

@@ -10,7 +10,7 @@ ghost use Rattle.resources.specs.Named.{ResourceOf};
 use tables::Summary;
 
 // What a resource number names.
-#[derive(Drop)]
+#[derive(Clone, Copy)]
 pub enum Resource {
     Search,
     Traversal,

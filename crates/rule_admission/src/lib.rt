@@ -1,4 +1,7 @@
 // Whether one rule admits (document 01, "Policies").
+
+#![tactic(auto)]
+
 ghost use Rattle.std.specs.Prelude.{◌<◌, ◌≤◌};
 ghost use Rattle.model.specs.Decides.{Decides};
 ghost use Rattle.model.specs.Policies.{Admits, state as state_of};

@@ -10,7 +10,7 @@ ghost use Rattle.rules.specs.Rules.{kind_of, RuleOf, RuleAt};
 use tables::Summary;
 
 // A policy, by its kind.
-#[derive(Drop)]
+#[derive(Clone, Copy)]
 pub enum Rule {
     NoOne,
     Everyone,

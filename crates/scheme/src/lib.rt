@@ -9,7 +9,7 @@ ghost use Rattle.scheme.specs.Checked.{Checked, number_of};
 use tables::Summary;
 
 // What the scheme check answers: the counts of an accepted scheme, or the refusal's number.
-#[derive(Drop)]
+#[derive(Clone, Copy)]
 pub enum Reading {
     Accepted(Summary),
     Refused(u8),

@@ -1,4 +1,7 @@
 // Where chains begin (document 01, "Finding"): whom a setting admits, and at which members a walk starts.
+
+#![tactic(auto)]
+
 ghost use Rattle.std.specs.Prelude.{◌≡◌, ℕ, ◌+◌, ◌<◌, length, get_or};
 ghost use Rattle.model.specs.Decides.{Decides};
 ghost use Rattle.model.specs.Finding.{Allows};

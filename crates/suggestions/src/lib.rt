@@ -9,7 +9,7 @@ use scheme::Reading;
 use tables::Summary;
 
 // The call's answer: how many members it wrote, or the refusal's number.
-#[derive(Drop)]
+#[derive(Clone, Copy)]
 pub enum Suggested {
     Members(usize),
     Refused(u8),

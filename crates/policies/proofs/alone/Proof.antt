@@ -3,20 +3,20 @@ use Rattle.network.proofs.Reading.{ready_read}
 use Rattle.policies.proofs.alone.Statement.{statement}
 use Rattle.policies.proofs.alone.Tie as tie
 
-policy-requires : tie.Need-policy-requires
-policy-requires c κs = let s = c.before.before in (ready_read s.requires.0, s.requires.5)
+policy-requires : tie.Need-policy-rule-requires
+policy-requires c κs = let s = c in (ready_read s.requires.0, s.requires.5)
 
 admits-requires : tie.Need-admits-requires
 admits-requires c κs =
-    let s = c.before.before.before in (
+    let s = c in (
       s.requires.0,
-      record { p = s.args.p; at = c.policy.ensures; reads = s.requires.1; lower = λ h. absurd (omega (arith, s.requires.2)) },
+      record { p = s.args.p; at = c.policy-rule.ensures; reads = s.requires.1; lower = λ h. absurd (omega (arith, s.requires.2)) },
       s.requires.3,
       s.requires.4,
     )
 
 returns : tie.Need-returns
-returns c = rw c.before.policy.ensures.policy c.admits.ensures
+returns c = rw c.policy-rule.ensures.policy c.admits.ensures
 
-pub alone-spec : {M : Type 1} → statement M
-alone-spec = tie.close (tie.spec policy-requires admits-requires returns)
+pub alone_spec : {M : Type 1} → statement M
+alone_spec = tie.close (tie.spec policy-requires admits-requires returns)

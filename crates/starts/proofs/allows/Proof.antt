@@ -5,7 +5,7 @@ use Rattle.model.specs.SchemeBytes.{scheme_of}
 use Rattle.starts.proofs.allows.Statement.{statement}
 use Rattle.starts.proofs.allows.Tie as tie
 
-setting-requires : tie.Need-setting-requires
+setting-requires : tie.Need-setting-p-requires
 setting-requires c κs = search rules
 
 wide-requires : tie.Need-wide-requires
@@ -16,10 +16,10 @@ admits-requires c κs = search rules
 
 returns : tie.Need-returns
 returns c =
-    let q = c.before.before in
-    let a = q.before.before.before.before.before.args in
-    let e : q.setting.result ≡ (held (scheme_of a.scheme.now) a.network.now).setting a.u a.r = q.setting.ensures.0 in
-    rw (← e, ← c.before.wide.ensures.0) c.admits.ensures
+    let q = c in
+    let a = q.args in
+    let e : q.setting-p.result ≡ (held (scheme_of a.scheme.now) a.network.now).setting a.u a.r = q.setting-p.ensures.0 in
+    rw (← e, ← c.wide.ensures.0) c.admits.ensures
 
-pub allows-spec : {M : Type 1} → statement M
-allows-spec = tie.close (tie.spec setting-requires wide-requires admits-requires returns)
+pub allows_spec : {M : Type 1} → statement M
+allows_spec = tie.close (tie.spec setting-requires wide-requires admits-requires returns)

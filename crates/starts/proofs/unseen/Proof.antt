@@ -6,5 +6,5 @@ use Rattle.starts.proofs.unseen.Tie as tie
 returns : tie.Need-returns
 returns c = (refl, all_zero 256)
 
-pub unseen-spec : {M : Type 1} → statement M
-unseen-spec = tie.close (tie.spec returns)
+pub unseen_spec : {M : Type 1} → statement M
+unseen_spec = tie.close (tie.spec returns)
