@@ -5,7 +5,7 @@
 ghost use Rattle.std.specs.Prelude.{◌≡◌, ◌+◌, ◌≤◌, length};
 ghost use Rattle.model.specs.Decides.{Decides};
 ghost use Rattle.fresh_start.specs.Stands.{Ready};
-ghost use Rattle.replay.specs.Fills.{IsOver, Fills, Adds, Printed, Continued};
+ghost use Rattle.replay.specs.Fills.{IsOver, Fills, Adds, Gives, Printed, Handed, Continued};
 
 use fresh_start::{Filled, Stand};
 use std::io::{Error, Write};
@@ -62,7 +62,8 @@ fn over(here: Stand) -> bool
 // Hands bytes over to be written, after so many.
 fn write<W: Write>(out: &mut W, bytes: &[u8], written: u64) -> Outcome
     requires { written + length bytes.now ≤ 18446744073709551615 }
-    ensures { Adds written (length bytes.now) result }
+    ensures adds { Adds written (length bytes.now) result }
+    ensures gives { Gives (W.contents out.old) (W.contents out.new) bytes.now result }
 {
     match files::write(out, bytes) {
         Ok(()) => Outcome::Whole(written + bytes.len() as u64),
@@ -71,9 +72,16 @@ fn write<W: Write>(out: &mut W, bytes: &[u8], written: u64) -> Outcome
 }
 
 // Writes the text by buffers, up to a write that fails.
-fn print_by<W: Write>(out: &mut W, scheme: &[u8], log: &[u8], network: &mut [u8], buffer: &mut [u8]) -> Outcome
+fn print_by<W: Write>(
+    out: &mut W,
+    scheme: &[u8],
+    log: &[u8],
+    network: &mut [u8],
+    buffer: &mut [u8],
+) -> Outcome
     requires { (39296 ≤ length network.old) × (1548 ≤ length buffer.old) × (length buffer.old ≤ 65536) }
-    ensures { Printed scheme.now log.now result }
+    ensures printed { Printed scheme.now log.now result }
+    ensures handed { Handed (W.contents out.old) (W.contents out.new) scheme.now log.now result }
 {
     let mut here = Stand::Start;
     let mut written: u64 = 0;
@@ -92,7 +100,8 @@ fn print_by<W: Write>(out: &mut W, scheme: &[u8], log: &[u8], network: &mut [u8]
 
 // Writes what the log program prints of these two files' bytes.
 pub fn print<W: Write>(out: &mut W, scheme: &[u8], log: &[u8]) -> Outcome
-    ensures { Printed scheme.now log.now result }
+    ensures printed { Printed scheme.now log.now result }
+    ensures handed { Handed (W.contents out.old) (W.contents out.new) scheme.now log.now result }
 {
     let mut network = [0u8; 65536];
     let mut buffer = [0u8; 65536];
