@@ -1,4 +1,7 @@
 // The requests that change the network: set and event (document 01, "The calls").
+
+#![tactic(auto)]
+
 ghost use Rattle.model.specs.Requests.{event as eventRequest, set_policy, answered};
 ghost use Rattle.model.specs.Calls.{Called};
 

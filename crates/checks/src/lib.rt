@@ -1,4 +1,7 @@
 // What several calls check: finding and admission (9, 10 and 11).
+
+#![tactic(auto)]
+
 ghost use Rattle.std.specs.Prelude.{◌≡◌, ◌⊎◌, ◌+◌, ◌<◌};
 ghost use Rattle.model.specs.Answers.{Answers};
 ghost use Rattle.model.specs.Decides.{Decides};

@@ -1,4 +1,7 @@
 // Degree: how far off another member is (document 02, 2026-01).
+
+#![tactic(auto)]
+
 ghost use Rattle.std.specs.Prelude.{◌<◌};
 ghost use Rattle.network.specs.Ready.{Ready, graph_of};
 ghost use Rattle.distance_mark.specs.Mark.{IsDistance};

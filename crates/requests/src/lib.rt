@@ -1,4 +1,7 @@
 // The requests that change nothing: find, view and list (document 01, "The calls").
+
+#![tactic(auto)]
+
 ghost use Rattle.model.specs.Requests.{find as findRequest, view as viewRequest, answered};
 ghost use Rattle.model.specs.Calls.{Called};
 ghost use Rattle.requests.specs.Answered.{ListCalled};

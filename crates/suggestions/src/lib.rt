@@ -1,4 +1,7 @@
 // Suggested contacts: whom a member might know (document 02, 2026-02).
+
+#![tactic(auto)]
+
 ghost use Rattle.std.specs.Prelude.{◌≡◌, ℕ, ◌<◌, length, get_or};
 ghost use Rattle.finding.specs.Everyone.{Everyone};
 ghost use Rattle.network.specs.Ready.{Ready, world_of};

@@ -1,4 +1,7 @@
 // The walk outward from the members that wait (document 01, "Finding").
+
+#![tactic(auto)]
+
 ghost use Rattle.std.specs.Prelude.{◌≡◌, ◌<◌, ◌≤◌, length};
 ghost use Rattle.network.specs.Ready.{Ready, world_of};
 ghost use Rattle.prepared.specs.Prepared.{Prepared};

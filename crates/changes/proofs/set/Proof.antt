@@ -10,47 +10,47 @@ use borrow.Author.Rules.{rules}
 use Rattle.changes.proofs.set.Statement.{statement}
 use Rattle.changes.proofs.set.Tie as tie
 
-abbrev start : tie.After-open → tie.Start
-start c = c.before.before.before.before
+abbrev start : tie.After-open-reading → tie.Start
+start c = c.before.before.before
 
-abbrev after_open : tie.After-known-told → tie.After-open
-after_open c = c.before.before.before
+abbrev after_open : tie.In-Accepted → tie.After-open-reading
+after_open c = c.before
 
-accepted : (c : tie.After-known-told)
+accepted : (c : tie.In-Accepted)
     → let s = (start (after_open c)).args in
-    Opened s.scheme.now s.network.now s.u s.u (Accepted c.before.reading.given.0.0)
-accepted c = open_accepted _ _ _ _ c.before.reading.given.1 (after_open c).open.ensures
+    Opened s.scheme.now s.network.now s.u s.u (Accepted c.in-Accepted.c)
+accepted c = open_accepted _ _ _ _ c.in-Accepted.is (after_open c).open-reading.ensures
 
 -- past 7
-resource : (c : tie.Else1) → let k = c.before.before.before.reading.given.0.0 in (start (after_open c.before.before)).args.r < 2 + k.primitives + k.items
-resource c = passed c.before.is-resource.result c.if1.false c.before.is-resource.ensures
+resource : (c : tie.Else-not-is_resource) → let k = c.in-Accepted.c in (start (after_open c.before.before)).args.r < 2 + k.primitives + k.items
+resource c = passed c.is_resource.result c.if-not-is_resource.false-raw c.is_resource.ensures
 
-open-requires : tie.Need-open-requires
+open-requires : tie.Need-open-reading-requires
 open-requires c κs = search rules
 
-enum-known-reading : tie.Need-enum-known-reading
+enum-known-reading : tie.Need-enum_known-reading
 enum-known-reading c = search rules
 
-enum_told : tie.Need-enum-told
+enum_told : tie.Need-enum_told-1
 enum_told c = search rules
 
 number-requires : tie.Need-number-requires
 number-requires c κs = search rules
 
-same_length : tie.Need-same-length
+same_length : tie.Need-shape_of-network-in_default
 same_length c = search rules
 
-returns : tie.Need-returns
-returns c = set_refused (open_refused _ _ _ _ c.before.enum_told.given.1 c.before.before.before.open.ensures c.number.ensures)
+returns : tie.Need-returns-in_default
+returns c = set_refused (open_refused _ _ _ _ c.in_default.is c.open-reading.ensures c.number.ensures)
 
-is-resource-requires : tie.Need-is-resource-requires
+is-resource-requires : tie.Need-is_resource-requires
 is-resource-requires c κs = ready_range (accepted c).0
 
-same-length-2 : tie.Need-same-length-2
+same-length-2 : tie.Need-shape_of-network-then-not-is_resource
 same-length-2 c = search rules
 
-returns-2 : tie.Need-returns-2
-returns-2 c = set_7 (accepted c.before.before) (refused c.before.is-resource.result c.if1.true c.before.is-resource.ensures)
+returns-2 : tie.Need-returns-then-not-is_resource
+returns-2 c = set_7 (accepted c.before.before) (refused c.is_resource.result c.if-not-is_resource.true-raw c.is_resource.ensures)
 
 mask-requires : tie.Need-mask-requires
 mask-requires c κs = (ready_read (accepted c.before.before).0, resource c)
@@ -58,20 +58,20 @@ mask-requires c κs = (ready_read (accepted c.before.before).0, resource c)
 offered-requires : tie.Need-offered-requires
 offered-requires c κs = search rules
 
-same-length-3 : tie.Need-same-length-3
+same-length-3 : tie.Need-shape_of-network-then-not-offered
 same-length-3 c = search rules
 
-returns-3 : tie.Need-returns-3
+returns-3 : tie.Need-returns-then-not-offered
 returns-3 c =
     let m = c.before.before in
-    set_12 (accepted m.before.before.before) (resource m.before) m.mask.ensures.0 c.before.offered.ensures c.if2.true
+    set_12 (accepted m.before.before.before) (resource m.before) m.mask.ensures.0 c.offered.ensures c.if-not-offered.true-raw
 
-cast-setting : tie.Need-overflow-cast-setting
+cast-setting : tie.Need-overflow_cast-p
 cast-setting c =
     let o = c.before.before in
     let m = o.before in
     let l : (start (after_open m.before.before.before)).args.p < 32
-    = set_below (accepted m.before.before.before) (resource m.before) m.mask.ensures.0 o.offered.ensures c.before.if2.false in
+    = set_below (accepted m.before.before.before) (resource m.before) m.mask.ensures.0 o.offered.ensures c.if-not-offered.false-raw in
     omega arith
 
 setting-requires : tie.Need-setting-requires
@@ -80,15 +80,15 @@ setting-requires c κs =
     let (h, x, y) = accepted d.before.before in
     (h, x, resource d)
 
-same-length-4 : tie.Need-same-length-4
+same-length-4 : tie.Need-shape_of-network
 same-length-4 c = search rules
 
-returns-4 : tie.Need-returns-4
+returns-4 : tie.Need-returns
 returns-4 c =
     let w = c.before.before in
     let o = w.before.before.before in
     let m = o.before in
-    set_0 (accepted m.before.before.before) (resource m.before) m.mask.ensures.0 o.offered.ensures w.before.before.if2.false w.setting.ensures
+    set_0 (accepted m.before.before.before) (resource m.before) m.mask.ensures.0 o.offered.ensures w.if-not-offered.false-raw w.setting.ensures
 
 pub set_spec : {M : Type 1} → statement M
 set_spec =

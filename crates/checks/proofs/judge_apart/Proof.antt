@@ -12,76 +12,76 @@ abbrev world : tie.Start → World
 world s = world_of s.args.scheme.now s.args.network.now
 
 -- past 9
-finds : (c : tie.Else1) → let s = start c.before in Finds (world s) s.args.v s.args.u
+finds : (c : tie.Else-not-finds) → let s = start c.before in Finds (world s) s.args.v s.args.u
 finds c =
     let s = start c.before in
     let a = s.args in
-    finds_so (world s) a.v a.u a.r a.defined c.before.finds.result c.if1.false c.before.finds.ensures
+    finds_so (world s) a.v a.u a.r a.defined c.finds.result c.if-not-finds.false-raw c.finds.ensures
 
-no-distances-requires : tie.Need-no-distances-requires
+no-distances-requires : tie.Need-no_distances-distances-requires
 no-distances-requires c κs = search rules
 
-no-rows-requires : tie.Need-no-rows-requires
+no-rows-requires : tie.Need-no_rows-rows-requires
 no-rows-requires c κs = search rules
 
-slice-aggregate-prepare : tie.Need-slice-aggregate-prepare
+slice-aggregate-prepare : tie.Need-slice_bounds-prepare-end
 slice-aggregate-prepare c = search rules
 
-slice-aggregate-prepare-2 : tie.Need-slice-aggregate-prepare-2
+slice-aggregate-prepare-2 : tie.Need-slice_bounds-prepare-end-2
 slice-aggregate-prepare-2 c = search rules
 
 prepare-requires : tie.Need-prepare-requires
 prepare-requires c κs = search rules
 
-slice-aggregate-finds : tie.Need-slice-aggregate-finds
+slice-aggregate-finds : tie.Need-slice_bounds-finds-end
 slice-aggregate-finds c = search rules
 
-slice-aggregate-finds-2 : tie.Need-slice-aggregate-finds-2
+slice-aggregate-finds-2 : tie.Need-slice_bounds-finds-end-2
 slice-aggregate-finds-2 c = search rules
 
 finds-requires : tie.Need-finds-requires
 finds-requires c κs = search rules
 
-returns : tie.Need-returns
+returns : tie.Need-returns-then-not-finds
 returns c =
     let s = start c.before in
     let a = s.args in
-    answer_9 (world s) a.v a.u a.r a.defined c.before.finds.result c.if1.true c.before.finds.ensures
+    answer_9 (world s) a.v a.u a.r a.defined c.finds.result c.if-not-finds.true-raw c.finds.ensures
 
-returns-2 : tie.Need-returns-2
+returns-2 : tie.Need-returns-then-not-defined
 returns-2 c =
     let s = start c.before.before in
     let a = s.args in
-    answer_10 (world s) a.v a.u a.r a.defined (finds c.before) c.if2.true
+    answer_10 (world s) a.v a.u a.r a.defined (finds c.before) c.if-not-defined.true-raw
 
-slice-aggregate-allows : tie.Need-slice-aggregate-allows
+slice-aggregate-allows : tie.Need-slice_bounds-allows-end
 slice-aggregate-allows c = search rules
 
-slice-aggregate-allows-2 : tie.Need-slice-aggregate-allows-2
+slice-aggregate-allows-2 : tie.Need-slice_bounds-allows-end-2
 slice-aggregate-allows-2 c = search rules
 
 allows-requires : tie.Need-allows-requires
 allows-requires c κs = search rules
 
-abbrev else2 : tie.After-allows → tie.Else2
+abbrev else2 : tie.After-allows → tie.Else-not-defined
 else2 c = c.before.before.before
 
-returns-3 : tie.Need-returns-3
+returns-3 : tie.Need-returns-then-not-allows
 returns-3 c =
     let e = else2 c.before in
     let s = start e.before.before in
     let a = s.args in
-    answer_11 (world s) a.v a.u a.r a.defined (finds e.before) e.if2.left c.before.allows.result c.if3.true c.before.allows.ensures
+    answer_11 (world s) a.v a.u a.r a.defined (finds e.before) e.if-not-defined.false-raw c.allows.result c.if-not-allows.true-raw c.allows.ensures
 
-returns-4 : tie.Need-returns-4
+returns-4 : tie.Need-returns
 returns-4 c =
     let e = else2 c.before in
     let s = start e.before.before in
     let a = s.args in
-    answer_0 (world s) a.v a.u a.r a.defined (finds e.before) e.if2.left c.before.allows.result c.if3.false c.before.allows.ensures
+    answer_0 (world s) a.v a.u a.r a.defined (finds e.before) e.if-not-defined.false-raw c.allows.result c.if-not-allows.false-raw c.allows.ensures
 
-pub judge-apart-spec : {M : Type 1} → statement M
-judge-apart-spec =
+pub judge_apart_spec : {M : Type 1} → statement M
+judge_apart_spec =
     tie.close
     (tie.spec
     no-distances-requires

@@ -5,16 +5,16 @@ use Rattle.checks.proofs.near.Statement.{statement}
 use Rattle.checks.proofs.near.Tie as tie
 use mathlib.Core.Logic.{inl}
 
-returns : tie.Need-returns
-returns c = inl c.if1.true
+returns : tie.Need-returns-then-u-v
+returns c = inl c.if-u-v.true
 
 friends-requires : tie.Need-friends-requires
 friends-requires c κs = search rules
 
-returns-2 : tie.Need-returns-2
+returns-2 : tie.Need-returns
 returns-2 c =
-    let a = c.before.before.before.before.args in
-    near_decides a.u a.v ((graph_of a.scheme.now a.network.now).friends a.u a.v) c.friends.result c.before.if1.false c.friends.ensures
+    let a = c.args in
+    near_decides a.u a.v ((graph_of a.scheme.now a.network.now).friends a.u a.v) c.friends.result c.if-u-v.false c.friends.ensures
 
-pub near-spec : {M : Type 1} → statement M
-near-spec = tie.close (tie.spec returns friends-requires returns-2)
+pub near_spec : {M : Type 1} → statement M
+near_spec = tie.close (tie.spec returns friends-requires returns-2)

@@ -16,32 +16,32 @@ abbrev world : tie.Start → World
 world s = world_of s.args.scheme.now s.args.network.now
 
 -- the first walk begins where u is neither the viewer nor its friend, and its search setting refuses
-abbrev after-begin : tie.Else2 → tie.After-begin
+abbrev after-begin : tie.Else-allows → tie.After-begin
 after-begin e = e.before.before.before.before
 
 -- and has ended without u
-abbrev unmet : tie.Else3 → tie.Else2
+abbrev unmet : tie.Else-walk → tie.Else-allows
 unmet f = f.before.before.before.before
 
-unseen-requires : tie.Need-unseen-requires
+unseen-requires : tie.Need-unseen-seen-requires
 unseen-requires c κs = search rules
 
-slice-aggregate-begin : tie.Need-slice-aggregate-begin
+slice-aggregate-begin : tie.Need-slice_bounds-begin-end
 slice-aggregate-begin c = search rules
 
 begin-requires : tie.Need-begin-requires
 begin-requires c κs =
-    let n = c.before in
-    let p = n.before.before.before.before.before.requires in
-    (p.0, p.2, n.unseen.ensures.0, n.unseen.ensures.1)
+    let n = c in
+    let p = n.requires in
+    (p.0, p.2, n.unseen-seen.ensures.0, n.unseen-seen.ensures.1)
 
-mul-if1 : tie.Need-overflow-mul-if1
+mul-if1 : tie.Need-offset_bounds-seen-u
 mul-if1 c = omega (arith, ready_range (start c.before).requires.0)
 
-array-read-if1 : tie.Need-array-read-if1
+array-read-if1 : tie.Need-bounds-seen-u
 array-read-if1 c = omega (arith, ready_range (start c.before).requires.0)
 
-returns : tie.Need-returns
+returns : tie.Need-returns-then-seen-u-ne0
 returns c =
     let b = c.before.before in
     let e = (start b).requires.0.counts.members in
@@ -50,25 +50,25 @@ returns c =
 allows-requires : tie.Need-allows-requires
 allows-requires c κs = let p = (start c.before.before).requires in (p.0, p.1, p.3, p.2, omega arith)
 
-returns-2 : tie.Need-returns-2
+returns-2 : tie.Need-returns-then-allows
 returns-2 c =
     let s = start c.before.before.before.before in
-    let e = s.pre.0.counts.members in
-    found_allowed (world s) s.args.v s.args.u c.before.allows.ensures (omega arith) c.if2.true
+    let e = s.requires.0.counts.members in
+    found_allowed (world s) s.args.v s.args.u c.allows.ensures (omega arith) c.if-allows.true
 
-slice-aggregate-walk : tie.Need-slice-aggregate-walk
+slice-aggregate-walk : tie.Need-slice_bounds-walk-end
 slice-aggregate-walk c = search rules
 
 walk-requires : tie.Need-walk-requires
 walk-requires c κs =
     let e = c.before in
     let p = (start (after-begin e)).requires in
-    (p.0, p.1, p.2, begun_walk (after-begin e).begin.ensures, λ b. omega (arith, e.before.before.if1.false))
+    (p.0, p.1, p.2, begun_walk (after-begin e).begin.ensures, λ b. omega (arith, e.if-seen-u-ne0.false))
 
-returns-3 : tie.Need-returns-3
-returns-3 c = c.before.before.walk.ensures.found c.if3.true
+returns-3 : tie.Need-returns-then-walk
+returns-3 c = c.walk.ensures.found c.if-walk.true
 
-slice-aggregate-search : tie.Need-slice-aggregate-search
+slice-aggregate-search : tie.Need-slice_bounds-search-end
 slice-aggregate-search c = search rules
 
 search-requires : tie.Need-search-requires
@@ -76,9 +76,9 @@ search-requires c κs =
     let f = c.before in
     let e = unmet f in
     let s = start (after-begin e) in
-    (s.pre.0, s.pre.1, s.pre.2, λ b. not_allowed (world s) s.args.v s.args.u e.before.allows.ensures e.if2.left, (f.before.before.walk.ensures.ended f.if3.false).walking.walk.long)
+    (s.requires.0, s.requires.1, s.requires.2, λ b. not_allowed (world s) s.args.v s.args.u e.allows.ensures e.if-allows.false, (f.walk.ensures.ended f.if-walk.false).walking.walk.long)
 
-slice-aggregate-walk-2 : tie.Need-slice-aggregate-walk-2
+slice-aggregate-walk-2 : tie.Need-slice_bounds-walk-end-2
 slice-aggregate-walk-2 c = search rules
 
 walk-requires-2 : tie.Need-walk-requires-2
@@ -86,22 +86,22 @@ walk-requires-2 c κs =
     let f = c.before.before.before.before in
     let e = unmet f in
     let s = start (after-begin e) in
-    let x = (f.before.before.walk.ensures.ended f.if3.false).walking in
-    let y = c.before.before.search.ensures in
-    (s.pre.0, s.pre.1, s.pre.2, searched_walk x y, searched_unmet x y (λ b. not_allowed (world s) s.args.v s.args.u e.before.allows.ensures e.if2.left))
+    let x = (f.walk.ensures.ended f.if-walk.false).walking in
+    let y = c.search.ensures in
+    (s.requires.0, s.requires.1, s.requires.2, searched_walk x y, searched_unmet x y (λ b. not_allowed (world s) s.args.v s.args.u e.allows.ensures e.if-allows.false))
 
-returns-4 : tie.Need-returns-4
+returns-4 : tie.Need-returns
 returns-4 c =
     let g = c.before.before.before.before in
     let f = g.before.before in
     let b = after-begin (unmet f) in
     let s = start b in
-    let e = s.pre.0.counts.members in
+    let e = s.requires.0.counts.members in
     let m : s.args.u < (world s).graph.members = omega arith in
-    walks_decide b.begin.ensures (f.before.before.walk.ensures.ended f.if3.false) g.search.ensures e c.before.walk2.ensures m
+    walks_decide b.begin.ensures (f.walk.ensures.ended f.if-walk.false) g.search.ensures e c.walk-2.ensures m
 
-pub finds-spec : {M : Type 1} → statement M
-finds-spec =
+pub finds_spec : {M : Type 1} → statement M
+finds_spec =
     tie.close
     (tie.spec
     unseen-requires

@@ -6,5 +6,5 @@ use Rattle.suggestions.proofs.no_ranks.Tie as tie
 returns : tie.Need-returns
 returns c = (refl, all_zero 256)
 
-pub no-ranks-spec : {M : Type 1} → statement M
-no-ranks-spec = tie.close (tie.spec returns)
+pub no_ranks_spec : {M : Type 1} → statement M
+no_ranks_spec = tie.close (tie.spec returns)

@@ -5,38 +5,38 @@ use Rattle.walk.specs.Walks.{AllSeen}
 use Rattle.walk.proofs.first_unseen.Statement.{statement}
 use Rattle.walk.proofs.first_unseen.Tie as tie
 
-abbrev invariant-loop : tie.invariant-loop
+abbrev invariant-loop : tie.invariant-loop-k
 invariant-loop members seen from k₀ k = (k ≤ members) × AllSeen k seen
 
-abbrev decreases-loop : tie.decreases-loop
+abbrev decreases-loop : tie.decreases-loop-k
 decreases-loop members seen from k₀ k = members - k
 
-loop-holds : tie.Need-loop-init invariant-loop decreases-loop
+loop-holds : tie.Need-loop-k-init invariant-loop decreases-loop
 loop-holds c = (c.requires.1, c.requires.2)
 
-mul-if1 : tie.Need-overflow-mul-if1 invariant-loop decreases-loop
+mul-if1 : tie.Need-offset_bounds-seen-k invariant-loop decreases-loop
 mul-if1 c = omega arith
 
-shared-slice-read-if1 : tie.Need-shared-slice-read-if1 invariant-loop decreases-loop
+shared-slice-read-if1 : tie.Need-bounds-seen-k invariant-loop decreases-loop
 shared-slice-read-if1 c = omega arith
 
-returns : tie.Need-returns invariant-loop decreases-loop
-returns c = record { within = omega arith; unseen = λ l. c.if1.true; everyone = c.before.before.before.loop.invariant.1 }
+returns : tie.Need-returns-then-seen-k-eq0 invariant-loop decreases-loop
+returns c = record { within = omega arith; unseen = λ l. c.if-seen-k-eq0.true; everyone = c.loop-k.invariant.1 }
 
-add-k : tie.Need-overflow-add-k invariant-loop decreases-loop
+add-k : tie.Need-overflow_add-k invariant-loop decreases-loop
 add-k c = omega arith
 
-loop-less : tie.Need-loop-smaller invariant-loop decreases-loop
+loop-less : tie.Need-loop-k-smaller invariant-loop decreases-loop
 loop-less c = omega arith
 
-loop-again : tie.Need-loop-preserved invariant-loop decreases-loop
-loop-again c = (omega arith, below_more _ _ c.before.before.before.loop.invariant.1 (omega arith))
+loop-again : tie.Need-loop-k-preserved invariant-loop decreases-loop
+loop-again c = (omega arith, below_more _ _ c.loop-k.invariant.1 (omega arith))
 
-returns-2 : tie.Need-returns-2 invariant-loop decreases-loop
-returns-2 c = record { within = omega arith; unseen = λ l. absurd (omega arith); everyone = c.before.loop.invariant.1 }
+returns-2 : tie.Need-returns invariant-loop decreases-loop
+returns-2 c = record { within = omega arith; unseen = λ l. absurd (omega arith); everyone = c.loop-k.invariant.1 }
 
-pub first-unseen-spec : {M : Type 1} → statement M
-first-unseen-spec =
+pub first_unseen_spec : {M : Type 1} → statement M
+first_unseen_spec =
     tie.close
     (tie.spec
     invariant-loop
