@@ -10,7 +10,7 @@ number-requires : tie.Need-number-requires
 number-requires c κs = search rules
 
 returns : tie.Need-returns
-returns c = check_number c.before.before.before.args.scheme.now c.before.check.result c.before.check.ensures c.number.ensures
+returns c = check_number c.args.scheme.now c.check.result c.check.ensures c.number.ensures
 
-pub gatekeeper-check-spec : {M : Type 1} → statement M
-gatekeeper-check-spec = tie.close (tie.spec check-requires number-requires returns)
+pub gatekeeper_check_spec : {M : Type 1} → statement M
+gatekeeper_check_spec = tie.close (tie.spec check-requires number-requires returns)
