@@ -15,11 +15,11 @@ SIGNATURE = re.compile(r'^\s*(?:(?:abbrev|unfoldable|pub|opaque) )*([^\s(){}\[\]
 TOKEN = re.compile(r"[^\s(){}\[\].,;:λ◌∷×≡<≤→←⊎+*/^%&|=!?\"`]+")
 
 # lemmas whose new name would be that of a function
-LEMMAS = ('bit-and', 'bit-or', 'lowest-from', 'is-record', 'is-clique', 'has-degree', 'friend-of-all', 'sides-for', 'next-in', 'event-judged', 'by-word', 'kind-of',
-          'is_within', 'too_long')
+LEMMAS = ('bit-and', 'bit-or', 'lowest-from', 'is-record', 'is-clique', 'has-degree', 'friend-of-all', 'sides-for', 'next-in', 'event-judged',
+          'by-word', 'kind-of', 'is_within', 'too_long')
 
-# constructors that stand several in a line
-MORE = ('any-side', 'owner-lesser', 'owner-greater', 'owner-only')
+# constructors that stand several in a line, and two names that a `ghost use` gives
+MORE = ('any-side', 'owner-lesser', 'owner-greater', 'owner-only', 'twoAt', 'fourAt')
 
 
 def snake(name):
