@@ -1,6 +1,6 @@
 #!/usr/bin/env python3
-"""Tests of docs/reference.md: that it and the definitions name each other, that its tables and bytes are those of reference.py, and
-that its calls are those of the library's header: python3 tools/test_reference_page.py"""
+"""Tests of docs/reference.md: that it and the definitions name each other, that its tables and bytes are those of reference.py, that
+its calls are those of the library's header, and that what the library exports has gatekeeper's clauses: python3 tools/test_reference_page.py"""
 import glob
 import os
 import re
