@@ -125,7 +125,7 @@ def full_device(program):
         with open('/dev/full', 'wb') as device:
             result = subprocess.run([program], cwd=place, stdout=device, stderr=subprocess.PIPE, timeout=PATIENCE)
         ended(result.returncode)
-        if result.stderr != b'the output is cut: No space left on device\n':
+        if result.stderr != b'the output is cut: No space left on device (os error 28)\n':
             raise Wrong('standard error does not say that the output is cut')
 
 

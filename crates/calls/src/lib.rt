@@ -1,4 +1,7 @@
 // The call of a request (document 01, "The calls").
+
+#![tactic(auto)]
+
 ghost use Rattle.std.specs.Prelude.{◌≡◌, length};
 ghost use Rattle.model.specs.Calls.{Left};
 ghost use Rattle.kinds.specs.Kinds.{request_of};

@@ -1,11 +1,14 @@
 // What the programs that run stored cases share: reading a case from standard input, an output filled before a call, and a sum of
 // bytes.
+
+#![tactic(auto)]
+
 ghost use Rattle.std.specs.Prelude.{◌≡◌, ◌<◌, ◌≤◌, length};
 ghost use Rattle.cases.specs.Parts.{Small, Within, Kept};
 ghost use Rattle.cases.specs.Places.{Filled};
 ghost use Rattle.cases.specs.Sums.{adler};
 
-use libc::STDIN_FILENO;
+use std::io::Read;
 
 // What reading a number finds: the number, or the end of the input.
 #[derive(Drop)]
@@ -21,21 +24,38 @@ pub enum Part {
     End,
 }
 
+// Reads until the buffer is full, the input ends or a read fails; how many bytes it put at the front of the buffer.
+pub fn read_full<R: Read>(input: &mut R, buffer: &mut [u8]) -> usize
+    ensures { result ≤ length buffer.new }
+{
+    let mut done: usize = 0;
+    while done < buffer.len() {
+        let Ok(count) = input.read(&mut buffer[done..]) else {
+            return done;
+        };
+        if count == 0 {
+            return done;
+        }
+        done += count;
+    }
+    done
+}
+
 // Reads a 2-byte number.
-pub fn read_number() -> Number
+pub fn read_number<R: Read>(input: &mut R) -> Number
     ensures { Small result }
 {
     let mut bytes = [0u8; 2];
-    if io::read_full(STDIN_FILENO, &mut bytes) < 2 {
+    if read_full(input, &mut bytes) < 2 {
         return Number::End;
     }
     Number::Is(records::two(&bytes, 0))
 }
 
 // Reads an 8-byte number.
-pub fn read_long() -> Number {
+pub fn read_long<R: Read>(input: &mut R) -> Number {
     let mut bytes = [0u8; 8];
-    if io::read_full(STDIN_FILENO, &mut bytes) < 8 {
+    if read_full(input, &mut bytes) < 8 {
         return Number::End;
     }
     let low = records::two(&bytes, 0) + 65536 * records::two(&bytes, 2);
@@ -44,17 +64,17 @@ pub fn read_long() -> Number {
 }
 
 // Reads a 2-byte length and that many bytes.
-pub fn read_part(buffer: &mut [u8]) -> Part
+pub fn read_part<R: Read>(input: &mut R, buffer: &mut [u8]) -> Part
     ensures within { Within result (length buffer.new) }
     ensures kept { Kept result buffer.old buffer.new }
 {
-    let Number::Is(size) = read_number() else {
+    let Number::Is(size) = read_number(input) else {
         return Part::End;
     };
     if size > buffer.len() {
         return Part::End;
     }
-    let got = io::read_full(STDIN_FILENO, &mut buffer[..size]);
+    let got = read_full(input, &mut buffer[..size]);
     Part::Bytes(got)
 }
 

@@ -1,1 +1,1 @@
-mod Counting
+pub mod Moving

@@ -1,7 +1,15 @@
 // Files, read and written whole: a call that a signal interrupts is made again, and no other failure is passed over.
-ghost use Rattle.std.specs.Prelude.{◌≡◌, ◌-◌, ◌≤◌, length};
-ghost use Rattle.io.specs.Counts.{IsPrefixLen};
-ghost use Rattle.files.specs.Transfers.{Within};
+
+#![tactic(auto)]
+
+ghost use Rattle.std.specs.Prelude.{◌≡◌, ◌-◌, ◌<◌, ◌≤◌, length, take, drop, MatchResult, OnOk};
+ghost use Rattle.std.specs.Io.KnownBytes.{Appends, Consumes};
+ghost use Rattle.files.specs.Transfers.{Within, moved, IsPrefixLen, Given};
+
+use std::fs::File;
+use std::io::{Error, ErrorKind, Read, Write};
+use std::rt::Files;
+use std::{io, str};
 
 // What a read or a write did: it moved so many bytes, one at the least; it moved none; it was interrupted first; or it failed.
 #[derive(Drop)]
@@ -9,39 +17,47 @@ pub enum Transfer {
     Moved(usize),
     Ended,
     Interrupted,
-    Failed,
+    Failed(Error),
 }
 
 // What a read or a write over these bytes did, by what it answered.
-fn told(got: isize, bytes: &[u8]) -> Transfer
-    ensures { Within result (length bytes.now) }
+fn told(got: io::Result<usize>, bytes: &[u8]) -> Transfer
+    ensures within { Within result (length bytes.now) }
+    ensures tells { MatchResult got (λ n. n ≤ length bytes.now → moved result ≡ n) (λ _. moved result ≡ 0) }
 {
-    let count = io::count(got, bytes);
-    if count != 0 {
-        return Transfer::Moved(count);
+    match got {
+        Ok(count) => {
+            let moved = count.min(bytes.len());
+            if moved == 0 {
+                return Transfer::Ended;
+            }
+            Transfer::Moved(moved)
+        }
+        Err(error) => {
+            if error.kind() == ErrorKind::Interrupted {
+                return Transfer::Interrupted;
+            }
+            Transfer::Failed(error)
+        }
     }
-    if got == 0 {
-        return Transfer::Ended;
-    }
-    if os::errno() == libc::EINTR {
-        return Transfer::Interrupted;
-    }
-    Transfer::Failed
 }
 
 // One read to the buffer from a place on.
-fn read_part(file: i32, buffer: &mut [u8], from: usize) -> Transfer
+fn read_part<R: Read>(file: &mut R, buffer: &mut [u8], from: usize) -> Transfer
     requires { from ≤ length buffer.old }
-    ensures { Within result (length buffer.old - from) }
+    ensures within { Within result (length buffer.old - from) }
+    ensures front { take from buffer.new ≡ take from buffer.old }
+    ensures bytes { Consumes (R.remaining file.old) (R.remaining file.new) (take (moved result) (drop from buffer.new)) }
 {
     let space = &mut buffer[from..];
-    let got = libc::read(file, space);
+    let got = file.read(space);
     told(got, space)
 }
 
 // Reads to the end, or until the buffer is full; 0 where a read fails, or a thousand were interrupted.
-fn read_all(file: i32, buffer: &mut [u8]) -> usize
-    ensures { IsPrefixLen result buffer.new }
+fn read_all<R: Read>(file: &mut R, buffer: &mut [u8]) -> usize
+    ensures prefix { IsPrefixLen result buffer.new }
+    ensures bytes { 0 < result → Consumes (R.remaining file.old) (R.remaining file.new) (take result buffer.new) }
 {
     let mut done: usize = 0;
     let mut interrupted: usize = 0;
@@ -54,51 +70,55 @@ fn read_all(file: i32, buffer: &mut [u8]) -> usize
             Transfer::Moved(count) => done += count,
             Transfer::Ended => return done,
             Transfer::Interrupted => interrupted += 1,
-            Transfer::Failed => return 0,
+            Transfer::Failed(_) => return 0,
         }
     }
     0
 }
 
-// A file's bytes to the front of the buffer, as many as it holds; how many. A file that cannot be opened, or of which a read
-// fails, is empty.
-pub fn read(path: &[u8], buffer: &mut [u8]) -> usize
+// A file's bytes to the front of the buffer, as many as it holds; how many. A file that cannot be opened, also since its name is
+// no UTF-8 text, or of which a read fails, is empty.
+pub fn read<R: Files>(rt: &R, path: &[u8], buffer: &mut [u8]) -> usize
     ensures { IsPrefixLen result buffer.new }
 {
-    let file = os::open_read(path);
-    if file < 0 {
+    let Ok(name) = str::from_utf8(path) else {
         return 0;
-    }
-    let count = read_all(file, buffer);
-    libc::close(file);
-    count
+    };
+    let Ok(mut file) = File::open(rt, name) else {
+        return 0;
+    };
+    read_all(&mut file, buffer)
 }
 
 // One write of the bytes from a place on.
-fn write_part(file: i32, bytes: &[u8], from: usize) -> Transfer
+fn write_part<W: Write>(file: &mut W, bytes: &[u8], from: usize) -> Transfer
     requires { from ≤ length bytes.now }
-    ensures { Within result (length bytes.now - from) }
+    ensures within { Within result (length bytes.now - from) }
+    ensures bytes { Appends (W.contents file.old) (W.contents file.new) (take (moved result) (drop from bytes.now)) }
 {
     let rest = &bytes[from..];
-    told(libc::write(file, rest), rest)
+    told(file.write(rest), rest)
 }
 
-// All of the bytes, in one write where the system takes them so; false where a write fails, or a thousand were interrupted:
-// none is made after that.
-pub fn write(file: i32, bytes: &[u8]) -> bool {
+// All of the bytes, in one write where the system takes them so; an error where a write fails, or a thousand were interrupted:
+// none is made after that, and what was given before it is the front of the bytes.
+pub fn write<W: Write>(file: &mut W, bytes: &[u8]) -> io::Result<()>
+    ensures whole { OnOk result (Appends (W.contents file.old) (W.contents file.new) bytes.now) }
+    ensures front { Given (W.contents file.old) (W.contents file.new) bytes.now }
+{
     let mut done: usize = 0;
     let mut interrupted: usize = 0;
     while interrupted < 1000 {
         if done == bytes.len() {
-            return true;
+            return Ok(());
         }
         let part = write_part(file, bytes, done);
         match part {
             Transfer::Moved(count) => done += count,
-            Transfer::Ended => return false,
+            Transfer::Ended => return Err(Error::from(ErrorKind::WriteZero)),
             Transfer::Interrupted => interrupted += 1,
-            Transfer::Failed => return false,
+            Transfer::Failed(error) => return Err(error),
         }
     }
-    false
+    Err(Error::from(ErrorKind::Interrupted))
 }

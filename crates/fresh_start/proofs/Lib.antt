@@ -1,3 +1,2 @@
 mod Starting
-mod FirstStep
 pub mod Once

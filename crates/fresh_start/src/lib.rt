@@ -1,4 +1,7 @@
 // How a run of the log program starts (document 01, "Log program").
+
+#![tactic(auto)]
+
 ghost use Rattle.std.specs.Prelude.{◌+◌, ◌≤◌, length};
 ghost use Rattle.fresh_start.specs.Started.{Started};
 ghost use Rattle.fresh_start.specs.Stands.{Stepped};

@@ -1,4 +1,7 @@
 // Lines of the log program in a lent buffer (document 01, "Log program").
+
+#![tactic(auto)]
+
 ghost use Rattle.std.specs.Prelude.{◌≡◌, ◌+◌, ◌*◌, ◌≤◌, length, [], ◌∷◌};
 ghost use Rattle.model.specs.Text.{decimal, spaced, line_of};
 ghost use Rattle.lines.specs.Put.{Put, longest};

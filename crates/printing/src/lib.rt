@@ -1,27 +1,30 @@
 // What the programs print.
-use libc::STDOUT_FILENO;
+
+#![tactic(auto)]
+
+use std::io;
 
 fn wide(x: u8) -> u64 {
     x as u64
 }
 
-pub fn text(bytes: &[u8]) {
-    io::write_all(STDOUT_FILENO, bytes);
+pub fn text(rt: &impl Print, bytes: &[u8]) -> io::Result<()> {
+    rt.write_all(bytes)
 }
 
-pub fn number(x: u64) {
-    io::print_decimal(STDOUT_FILENO, x);
+pub fn number(rt: &impl Print, x: u64) -> io::Result<()> {
+    rt.print(x)
 }
 
 // A number after a space.
-pub fn next(x: u64) {
-    text(b" ");
-    number(x);
+pub fn next(rt: &impl Print, x: u64) -> io::Result<()> {
+    text(rt, b" ")?;
+    number(rt, x)
 }
 
 // An answer's number, after a space.
-pub fn answer(number: u8) {
-    next(wide(number));
+pub fn answer(rt: &impl Print, number: u8) -> io::Result<()> {
+    next(rt, wide(number))
 }
 
 fn wide_member(x: u16) -> u64 {
@@ -29,14 +32,13 @@ fn wide_member(x: u16) -> u64 {
 }
 
 // Each number, after a space.
-pub fn list(numbers: &[u16]) {
-    let mut i: usize = 0;
-    while i < numbers.len() {
-        next(wide_member(numbers[i]));
-        i += 1;
+pub fn list(rt: &impl Print, numbers: &[u16]) -> io::Result<()> {
+    for x in numbers {
+        next(rt, wide_member(*x))?;
     }
+    Ok(())
 }
 
-pub fn end() {
-    text(b"\n");
+pub fn end(rt: &impl Print) -> io::Result<()> {
+    text(rt, b"\n")
 }

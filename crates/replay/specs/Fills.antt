@@ -1,5 +1,7 @@
 -- Buffers filled with the log program's text, and what is written of them.
-use Rattle.std.specs.Prelude.{ℕ, zero, suc, ◌+◌, ◌≤◌, ◌≡◌, List, [], ◌++◌, length, take}
+use Rattle.std.specs.Prelude.{ℕ, zero, suc, ◌+◌, ◌≤◌, ◌≡◌, List, [], ◌++◌, length, take, Option}
+use Rattle.std.specs.Io.KnownBytes.{Appends}
+use Rattle.files.specs.Transfers.{Given}
 use Rattle.model.specs.Text.{State, start, Prints, TextFrom, Text, ReadOf}
 use Rattle.fresh_start.specs.Stands.{state_of, Ready, Stepped}
 use Rattle.fresh_start.specs.declared.Stand.{Stand}
@@ -54,7 +56,11 @@ Continued =
 -- a write hands over all of its bytes, or fails and adds none
 abbrev pub Adds : ℕ → ℕ → Outcome → Type 0
 Adds before count (Whole written) = written ≡ before + count
-Adds before count (Cut written) = written ≡ before
+Adds before count (Cut written error) = written ≡ before
+
+-- the text of files of any length, of which this was read
+abbrev pub TextRead : List ℕ → List ℕ → List ℕ → Type 0
+TextRead b log text = (more rest : List ℕ) → ReadOf 530 b more → ReadOf 16384 log rest → Text (b ++ more) (log ++ rest) text
 
 -- so many bytes were handed over to be written as the text has, of files of any length: where what was read is longer than every accepted
 -- scheme or log, it has the whole file's text; or, where a write failed, the bytes handed over before it are the text's first lines
@@ -62,5 +68,31 @@ abbrev pub Printed : List ℕ → List ℕ → Outcome → Type 0
 Printed b log (Whole written) =
     (text : List ℕ)
     × (written ≡ length text)
-    × ((more rest : List ℕ) → ReadOf 530 b more → ReadOf 16384 log rest → Text (b ++ more) (log ++ rest) text)
-Printed b log (Cut written) = (text : List ℕ) × (written ≡ length text) × (count : ℕ) × (reached : State) × Prints b log count start text reached
+    × TextRead b log text
+Printed b log (Cut written error) = (text : List ℕ) × (written ≡ length text) × (count : ℕ) × (reached : State) × Prints b log count start text reached
+
+-- where the writer can tell what it was given: a write gave it all of the bytes, or failed and gave it a front of them
+abbrev pub Gives : Option (List ℕ) → Option (List ℕ) → List ℕ → Outcome → Type 0
+Gives before after bytes (Whole written) = Appends before after bytes
+Gives before after bytes (Cut written error) = Given before after bytes
+
+-- where the writer can tell what it was given, that is the text, which has so many bytes; or, where a write failed, the text's first
+-- lines, which have so many bytes, and a front of the lines behind them
+abbrev pub Handed : Option (List ℕ) → Option (List ℕ) → List ℕ → List ℕ → Outcome → Type 0
+Handed before after b log (Whole written) =
+    (text : List ℕ)
+    × Appends before after text
+    × (written ≡ length text)
+    × TextRead b log text
+Handed before after b log (Cut written error) =
+    (text : List ℕ)
+    × (written ≡ length text)
+    × (count : ℕ)
+    × (reached : State)
+    × Prints b log count start text reached
+    × (lines : List ℕ)
+    × (further : ℕ)
+    × (next : State)
+    × Prints b log further reached lines next
+    × (part : ℕ)
+    × Appends before after (text ++ take part lines)

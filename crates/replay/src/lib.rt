@@ -1,17 +1,20 @@
 // The text of two files, a buffer at a time (document 01, "Log program").
+
+#![tactic(auto)]
+
 ghost use Rattle.std.specs.Prelude.{◌≡◌, ◌+◌, ◌≤◌, length};
 ghost use Rattle.model.specs.Decides.{Decides};
 ghost use Rattle.fresh_start.specs.Stands.{Ready};
-ghost use Rattle.replay.specs.Fills.{IsOver, Fills, Adds, Printed, Continued};
+ghost use Rattle.replay.specs.Fills.{IsOver, Fills, Adds, Gives, Printed, Handed, Continued};
 
 use fresh_start::{Filled, Stand};
-use libc::STDOUT_FILENO;
+use std::io::{Error, Write};
 
-// How the text was printed: whole, so many bytes; or cut, since a write failed after so many.
+// How the text was printed: whole, so many bytes; or cut, since a write failed after so many, and why.
 #[derive(Drop)]
 pub enum Outcome {
     Whole(u64),
-    Cut(u64),
+    Cut(u64, Error),
 }
 
 // Whether there is a next step, and room for it: so many bytes are lent for the network, and so many for the text.
@@ -57,27 +60,35 @@ fn over(here: Stand) -> bool
 }
 
 // Hands bytes over to be written, after so many.
-fn write(bytes: &[u8], written: u64) -> Outcome
+fn write<W: Write>(out: &mut W, bytes: &[u8], written: u64) -> Outcome
     requires { written + length bytes.now ≤ 18446744073709551615 }
-    ensures { Adds written (length bytes.now) result }
+    ensures adds { Adds written (length bytes.now) result }
+    ensures gives { Gives (W.contents out.old) (W.contents out.new) bytes.now result }
 {
-    if !files::write(STDOUT_FILENO, bytes) {
-        return Outcome::Cut(written);
+    match files::write(out, bytes) {
+        Ok(()) => Outcome::Whole(written + bytes.len() as u64),
+        Err(error) => Outcome::Cut(written, error),
     }
-    Outcome::Whole(written + bytes.len() as u64)
 }
 
 // Writes the text by buffers, up to a write that fails.
-fn print_by(scheme: &[u8], log: &[u8], network: &mut [u8], buffer: &mut [u8]) -> Outcome
+fn print_by<W: Write>(
+    out: &mut W,
+    scheme: &[u8],
+    log: &[u8],
+    network: &mut [u8],
+    buffer: &mut [u8],
+) -> Outcome
     requires { (39296 ≤ length network.old) × (1548 ≤ length buffer.old) × (length buffer.old ≤ 65536) }
-    ensures { Printed scheme.now log.now result }
+    ensures printed { Printed scheme.now log.now result }
+    ensures handed { Handed (W.contents out.old) (W.contents out.new) scheme.now log.now result }
 {
     let mut here = Stand::Start;
     let mut written: u64 = 0;
     while !over(here) {
         let filled = fill(scheme, log, network, buffer, here);
         let used = filled.used;
-        let outcome = write(&buffer[..used], written);
+        let outcome = write(out, &buffer[..used], written);
         let Outcome::Whole(total) = outcome else {
             return outcome;
         };
@@ -87,13 +98,14 @@ fn print_by(scheme: &[u8], log: &[u8], network: &mut [u8], buffer: &mut [u8]) ->
     Outcome::Whole(written)
 }
 
-// Prints what the log program prints of these two files' bytes.
-pub fn print(scheme: &[u8], log: &[u8]) -> Outcome
-    ensures { Printed scheme.now log.now result }
+// Writes what the log program prints of these two files' bytes.
+pub fn print<W: Write>(out: &mut W, scheme: &[u8], log: &[u8]) -> Outcome
+    ensures printed { Printed scheme.now log.now result }
+    ensures handed { Handed (W.contents out.old) (W.contents out.new) scheme.now log.now result }
 {
-    let mut network = io::large_buffer();
-    let mut buffer = io::large_buffer();
-    print_by(scheme, log, &mut network, &mut buffer)
+    let mut network = [0u8; 65536];
+    let mut buffer = [0u8; 65536];
+    print_by(out, scheme, log, &mut network, &mut buffer)
 }
 
 // What was written and the text from where it stands are the text from where it stood.

@@ -1,10 +1,14 @@
 // Reads cases from standard input and prints what requests answer. A case is a 2-byte length and a scheme's bytes, a 2-byte
 // length and a network's bytes, and a 2-byte count of requests, each four 2-byte numbers: its kind and its arguments.
+
+#![tactic(auto)]
+
 ghost use Rattle.std.specs.Prelude.{◌≡◌, ◌≤◌, length};
 
 use cases::{Number, Part};
 use kinds::Request;
-use libc::STDIN_FILENO;
+use std::io;
+use std::io::Read;
 
 // What reading a request finds: its kind and its arguments, or the end of the input.
 #[derive(Drop)]
@@ -13,9 +17,9 @@ enum Numbers {
     End,
 }
 
-fn read_numbers() -> Numbers {
+fn read_numbers<R: Read>(input: &mut R) -> Numbers {
     let mut bytes = [0u8; 8];
-    if io::read_full(STDIN_FILENO, &mut bytes) < 8 {
+    if cases::read_full(input, &mut bytes) < 8 {
         return Numbers::End;
     }
     Numbers::Of(
@@ -45,21 +49,28 @@ fn decode(kind: usize, x: usize, y: usize, z: usize) -> Decoded {
 }
 
 // A list's answer, where granted the count, and behind a bar every place of the output.
-fn run_list(scheme: &[u8], network: &mut [u8], request: Request, output: &mut [u16])
+fn run_list(
+    rt: &impl Print,
+    scheme: &[u8],
+    network: &mut [u8],
+    request: Request,
+    output: &mut [u16],
+) -> io::Result<()>
     requires { length output.old ≤ 1000 }
 {
     cases::fill(output);
     let reply = calls::call(scheme, network, request, output);
-    printing::answer(reply.answer);
+    printing::answer(rt, reply.answer)?;
     if reply.answer == 0 {
-        printing::next(reply.count as u64);
+        printing::next(rt, reply.count as u64)?;
     }
-    printing::text(b" |");
-    printing::list(output);
+    printing::text(rt, b" |")?;
+    printing::list(rt, output)
 }
 
 // A request's answer; a list has as many places as its last argument says, and the output that many at least.
 fn run_request(
+    rt: &impl Print,
     scheme: &[u8],
     network: &mut [u8],
     kind: usize,
@@ -67,99 +78,130 @@ fn run_request(
     y: usize,
     z: usize,
     output: &mut [u16],
-)
+) -> io::Result<()>
     requires { length output.old ≤ 1000 }
 {
     let Decoded::Asks(request) = decode(kind, x, y, z) else {
-        return;
+        return Ok(());
     };
     if kind != 19 {
         let reply = calls::call(scheme, network, request, output);
-        printing::answer(reply.answer);
-        return;
+        printing::answer(rt, reply.answer)?;
+        return Ok(());
     }
     if z <= output.len() {
-        run_list(scheme, network, request, &mut output[..z]);
+        return run_list(rt, scheme, network, request, &mut output[..z]);
     }
+    Ok(())
 }
 
 // Reads a request and prints its line; false at the end of the input.
-fn run_next(number: u64, place: u64, scheme: &[u8], network: &mut [u8], output: &mut [u16]) -> bool
+fn run_next<R: Read>(
+    rt: &impl Print,
+    input: &mut R,
+    number: u64,
+    place: u64,
+    scheme: &[u8],
+    network: &mut [u8],
+    output: &mut [u16],
+) -> io::Result<bool>
     requires { length output.old ≤ 1000 }
 {
-    let Numbers::Of(kind, x, y, z) = read_numbers() else {
-        return false;
+    let Numbers::Of(kind, x, y, z) = read_numbers(input) else {
+        return Ok(false);
     };
-    printing::number(number);
-    printing::next(place);
-    run_request(scheme, network, kind, x, y, z, output);
-    printing::end();
-    true
+    printing::number(rt, number)?;
+    printing::next(rt, place)?;
+    run_request(rt, scheme, network, kind, x, y, z, output)?;
+    printing::end(rt)?;
+    Ok(true)
 }
 
 // Reads so many requests and prints their lines; false where one is missing.
-fn run_requests(
+fn run_requests<R: Read>(
+    rt: &impl Print,
+    input: &mut R,
     number: u64,
     scheme: &[u8],
     network: &mut [u8],
     count: usize,
     output: &mut [u16],
-) -> bool
+) -> io::Result<bool>
     requires { length output.old ≤ 1000 }
 {
-    let mut done: usize = 0;
-    while done < count {
-        done += 1;
-        if !run_next(number, done as u64, scheme, network, output) {
-            return false;
+    for place in 1..=count {
+        if !run_next(rt, input, number, place as u64, scheme, network, output)? {
+            return Ok(false);
         }
     }
-    true
+    Ok(true)
 }
 
 // A case's last line: the sum of its network's bytes.
-fn print_sum(number: u64, network: &[u8]) {
-    printing::number(number);
-    printing::text(b" sum");
-    printing::next(cases::sum(network));
-    printing::end();
+fn print_sum(rt: &impl Print, number: u64, network: &[u8]) -> io::Result<()> {
+    printing::number(rt, number)?;
+    printing::text(rt, b" sum")?;
+    printing::next(rt, cases::sum(network))?;
+    printing::end(rt)
 }
 
 // Reads a case's requests and prints its lines; false at the end of the input.
-fn run_network(number: u64, scheme: &[u8], network: &mut [u8], output: &mut [u16]) -> bool
+fn run_network<R: Read>(
+    rt: &impl Print,
+    input: &mut R,
+    number: u64,
+    scheme: &[u8],
+    network: &mut [u8],
+    output: &mut [u16],
+) -> io::Result<bool>
     requires { length output.old ≤ 1000 }
 {
-    let Number::Is(count) = cases::read_number() else {
-        return false;
+    let Number::Is(count) = cases::read_number(input) else {
+        return Ok(false);
     };
-    if !run_requests(number, scheme, network, count, output) {
-        return false;
+    if !run_requests(rt, input, number, scheme, network, count, output)? {
+        return Ok(false);
     }
-    print_sum(number, network);
-    true
+    print_sum(rt, number, network)?;
+    Ok(true)
 }
 
 // Reads a case and prints its lines; false at the end of the input.
-fn run_case(number: u64, scheme: &mut [u8], network: &mut [u8], output: &mut [u16]) -> bool
+fn run_case<R: Read>(
+    rt: &impl Print,
+    input: &mut R,
+    number: u64,
+    scheme: &mut [u8],
+    network: &mut [u8],
+    output: &mut [u16],
+) -> io::Result<bool>
     requires { length output.old ≤ 1000 }
 {
-    let Part::Bytes(s) = cases::read_part(scheme) else {
-        return false;
+    let Part::Bytes(s) = cases::read_part(input, scheme) else {
+        return Ok(false);
     };
-    let Part::Bytes(n) = cases::read_part(network) else {
-        return false;
+    let Part::Bytes(n) = cases::read_part(input, network) else {
+        return Ok(false);
     };
-    run_network(number, &scheme[..s], &mut network[..n], output)
+    run_network(rt, input, number, &scheme[..s], &mut network[..n], output)
 }
 
 // A proved loop has to end, and nothing says that the input does: the bound is one that no run reaches.
-fn run_cases(scheme: &mut [u8], network: &mut [u8], output: &mut [u16])
+fn run_cases<R: Read>(
+    rt: &impl Print,
+    input: &mut R,
+    scheme: &mut [u8],
+    network: &mut [u8],
+    output: &mut [u16],
+) -> io::Result<()>
     requires { length output.old ≤ 1000 }
 {
-    let mut number: u64 = 1;
-    while number < 1000000 && run_case(number, scheme, network, output) {
-        number += 1;
+    for number in 1..1000000 {
+        if !run_case(rt, input, number, scheme, network, output)? {
+            return Ok(());
+        }
     }
+    Ok(())
 }
 
 // One place more than the most that a list needs.
@@ -169,9 +211,15 @@ fn places() -> [u16; 257]
     [0; 257]
 }
 
-fn main() {
-    let mut scheme = io::large_buffer();
-    let mut network = io::large_buffer();
+fn main(rt: HostRuntime) -> io::Result<()> {
+    let mut scheme = [0u8; 65536];
+    let mut network = [0u8; 65536];
     let mut output = places();
-    run_cases(&mut scheme, &mut network, &mut output);
+    run_cases(
+        &rt,
+        &mut rt.reader(),
+        &mut scheme,
+        &mut network,
+        &mut output,
+    )
 }

@@ -1,5 +1,8 @@
 // The standard scheme and the session's log, as bytes (document 01, "Standard scheme and a session").
-ghost use Rattle.std.specs.Prelude.{◌≡◌, ◌≤◌};
+
+#![tactic(auto)]
+
+ghost use Rattle.std.specs.Prelude.{◌≡◌, ◌≤◌, length, ◌++◌, drop};
 ghost use Rattle.model.specs.Standard.{standard_bytes};
 ghost use Rattle.model.specs.Session.{session_log};
 ghost use Rattle.standard.specs.Written.{Written};
@@ -66,6 +69,14 @@ fn session_bytes() -> [u8; 139]
         \x05\x00\x14\x00\x02\x00\x00\x00\x01"
 }
 
+// Puts bytes at the front of the output.
+fn put(bytes: &[u8], output: &mut [u8])
+    requires { length bytes.now ≤ length output.old }
+    ensures { output.new ≡ bytes.now ++ drop (length bytes.now) output.old }
+{
+    output[..bytes.len()].copy_from_slice(bytes);
+}
+
 // Writes the standard scheme for n members at the front of the output. Writes nothing, and says so, for n = 0, for n above
 // 256, and where the output is shorter than the scheme.
 pub fn scheme(n: usize, output: &mut [u8]) -> bool
@@ -81,7 +92,7 @@ pub fn scheme(n: usize, output: &mut [u8]) -> bool
         return false;
     }
     let bytes = scheme_bytes(n);
-    bytes::copy(&bytes, output);
+    put(&bytes, output);
     true
 }
 
@@ -93,6 +104,6 @@ pub fn session(output: &mut [u8]) -> bool
         return false;
     }
     let bytes = session_bytes();
-    bytes::copy(&bytes, output);
+    put(&bytes, output);
     true
 }

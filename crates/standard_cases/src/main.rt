@@ -1,23 +1,24 @@
-// Compares the files of examples/standard, which are links to this crate's data/, with the proved bytes.
+// Compares the files of examples/standard, of which this crate's data/ has copies, with the proved bytes.
+
+#![tactic(auto)]
+
+use std::io;
+use std::rt::Files;
 
 // Prints a file's name, and 1 if it holds these bytes, else 0. A file that cannot be read counts as empty.
-fn print_same(name: &[u8], bytes: &[u8]) {
-    let mut buffer = io::buffer();
-    let count = files::read(name, &mut buffer);
-    printing::text(name);
-    printing::next(if check::same(&buffer[..count], bytes) {
-        1
-    } else {
-        0
-    });
-    printing::end();
+fn print_same(rt: &(impl Files + Print), name: &[u8], bytes: &[u8]) -> io::Result<()> {
+    let mut buffer = [0u8; 4096];
+    let count = files::read(rt, name, &mut buffer);
+    printing::text(rt, name)?;
+    printing::next(rt, if &buffer[..count] == bytes { 1 } else { 0 })?;
+    printing::end(rt)
 }
 
-fn main() {
+fn main(rt: HostRuntime) -> io::Result<()> {
     let mut scheme = [0u8; 150];
     let mut session = [0u8; 139];
     standard::scheme(4, &mut scheme);
     standard::session(&mut session);
-    print_same(b"scheme", &scheme);
-    print_same(b"requests", &session);
+    print_same(&rt, b"scheme", &scheme)?;
+    print_same(&rt, b"requests", &session)
 }

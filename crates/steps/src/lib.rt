@@ -1,4 +1,7 @@
 // One step of the log program, its line put into a lent buffer (document 01, "Log program").
+
+#![tactic(auto)]
+
 ghost use Rattle.std.specs.Prelude.{◌≡◌, ◌+◌, ◌<◌, ◌≤◌, length};
 ghost use Rattle.fresh_start.specs.Stands.{Ready, Stepped};
 

@@ -5,17 +5,17 @@ use borrow.Author.Rules.{rules}
 use Rattle.lines.proofs.put_byte.Statement.{statement}
 use Rattle.lines.proofs.put_byte.Tie as tie
 
-slice-write-buffer : tie.Need-slice-write-buffer
+slice-write-buffer : tie.Need-bounds-buffer-at
 slice-write-buffer c = search rules
 
-add-result : tie.Need-overflow-add-result
+add-result : tie.Need-overflow_add-result
 add-result c = search rules
 
-same_length : tie.Need-same-length
+same_length : tie.Need-shape_of-buffer
 same_length c = search rules
 
 returns : tie.Need-returns
 returns c = (put_one _ (omega arith), refl)
 
-pub put-byte-spec : {M : Type 1} → statement M
-put-byte-spec = tie.close (tie.spec slice-write-buffer add-result same_length returns)
+pub put_byte_spec : {M : Type 1} → statement M
+put_byte_spec = tie.close (tie.spec slice-write-buffer add-result same_length returns)

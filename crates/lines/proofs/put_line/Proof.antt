@@ -4,36 +4,36 @@ use borrow.Author.Rules.{rules}
 use Rattle.lines.proofs.put_line.Statement.{statement}
 use Rattle.lines.proofs.put_line.Tie as tie
 
-put-number-requires : tie.Need-put-number-requires
+put-number-requires : tie.Need-put_number-first-requires
 put-number-requires c κs = search rules
 
-answer-number-requires : tie.Need-answer-number-requires
+answer-number-requires : tie.Need-answer_number-requires
 answer-number-requires c κs = search rules
 
-put-next-requires : tie.Need-put-next-requires
+put-next-requires : tie.Need-put_next-second-requires
 put-next-requires c κs = search rules
 
-put-list-requires : tie.Need-put-list-requires
+put-list-requires : tie.Need-put_list-last-requires
 put-list-requires c κs = search rules
 
-put-byte-requires : tie.Need-put-byte-requires
+put-byte-requires : tie.Need-put_byte-requires
 put-byte-requires c κs = search rules
 
-same_length : tie.Need-same-length
+same_length : tie.Need-shape_of-buffer
 same_length c = search rules
 
 returns : tie.Need-returns
 returns c =
-    let a = c.before.before.before.before.before.before.before.before.before.before.before.before.before.before.before.before.before.before.before.args in
-    let first = c.before.before.before.before.before.before.before.before.before.before.before.before.before.before.before.put-number.ensures in
-    let second = c.before.before.before.before.before.before.before.before.before.before.put_next.ensures in
-    let number = c.before.before.before.before.before.before.before.before.before.before.before.before.answer-number.ensures in
-    let list = c.before.before.before.before.before.before.put-list.ensures in
-    let end = c.before.before.put_byte.ensures in
+    let a = c.args in
+    let first = c.put_number-first.ensures in
+    let second = c.put_next-second.ensures in
+    let number = c.answer_number.ensures in
+    let list = c.put_list-last.ensures in
+    let end = c.put_byte.ensures in
     (put_line a.position a.answer a.friends.now first.0 (rw number at second.0) list.0 end.0, omega arith)
 
-pub put-line-spec : {M : Type 1} → statement M
-put-line-spec =
+pub put_line_spec : {M : Type 1} → statement M
+put_line_spec =
     tie.close
     (tie.spec
     put-number-requires
