@@ -1,4 +1,7 @@
 // The calls for other languages, on numbers and lent slices. A slice stands in C as a pointer and a count of elements.
+
+#![tactic(auto)]
+
 ghost use Rattle.model.specs.Answers.{Answers};
 ghost use Rattle.model.specs.Calls.{Called, Freshened, ListAnswered, DegreeAnswered, SuggestAnswered, LengthOf};
 ghost use Rattle.model.specs.Requests.{event, set_policy, find, view, answered};
