@@ -3,11 +3,7 @@ use Prim.Native.Nat.{ℕ}
 use mathlib.Core.List.{List}
 use Rattle.model.specs.Requests.{list, Turn}
 use Rattle.model.specs.Calls.{Called}
-use Rattle.changes.proofs.event.Reads as event-reads
-use Rattle.changes.proofs.set.Reads as set_Reads
-use Rattle.requests.proofs.find.Reads as find-reads
-use Rattle.requests.proofs.view.Reads as view-reads
-use Rattle.claims.specs.Cite.{ListMade, CallMade}
+use Rattle.claims.specs.Cite.{EventTold, SetTold, FindTold, ViewTold, ListMade, CallMade}
 use Rattle.claims.proofs.FromContracts.{sound as five-sound}
 
 list_says : (b net : List ℕ) (v u places answer : ℕ) (written after : List ℕ) → ListMade b net v u places answer written after
@@ -16,7 +12,7 @@ list_says b net v u places answer written after (κs, s, n, o, told, left, eb, e
 
 pub sound : (b net : List ℕ) (t : Turn) (after : List ℕ) → CallMade b net t after → Called b net t after
 sound b net t after c =
-    five-sound event-reads.Learnt set_Reads.Learnt find-reads.Learnt view-reads.Learnt ListMade
+    five-sound EventTold SetTold FindTold ViewTold ListMade
     (λ v u a k κs s n after h. h)
     (λ u r p k κs s n after h. h)
     (λ v u k κs s n after (e, h). rw e h)

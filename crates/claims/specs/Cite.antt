@@ -1,31 +1,49 @@
 -- What happened, by what a caller learns of each function of `requests` and `changes` from its own contract.
 use Rattle.std.specs.Prelude.{ℕ, ◌≡◌, List, length, take}
 use contract.Lifetimes.{Lfts}
-use Rattle.std.specs.Borrow.{Bor}
+use Rattle.std.specs.Borrow.{Bor, MutBor}
 use denote.Triple.Clauses.{at_exit}
 use Rattle.model.specs.Requests.{Request, Turn}
 use Rattle.requests.specs.Answered.{number_of, count_of}
 use Rattle.requests.specs.declared.Listed.{Listed}
+use Rattle.changes.specs.contracts.event as event-contract
+use Rattle.changes.specs.contracts.set as set-contract
+use Rattle.requests.specs.contracts.find as find-contract
 use Rattle.requests.specs.contracts.list as list-contract
-use Rattle.changes.proofs.event.Reads as event-reads
-use Rattle.changes.proofs.set.Reads as set_Reads
-use Rattle.requests.proofs.find.Reads as find-reads
-use Rattle.requests.proofs.list.Reads as list-reads
-use Rattle.requests.proofs.view.Reads as view-reads
-use Rattle.claims.specs.FiveCalls.{Listing, OneOfFive}
+use Rattle.requests.specs.contracts.view as view-contract
+use borrow.Fn.World.{w₀}
+use borrow.Fn.Read.{r_last}
+use Rattle.claims.specs.Told.{Told}
+use Rattle.claims.specs.FiveCalls.{Changing, Finding, Viewing, Listing, OneOfFive}
+
+-- what a caller learns of the four that write no list
+abbrev pub EventTold : Changing
+EventTold κs args k exit = Told ((event-contract.clauses w₀.𝓛 w₀.𝓜.mem w₀.𝓡.returns κs args).ensures tt k exit) (r_last _)
+
+abbrev pub SetTold : Changing
+SetTold κs args k exit = Told ((set-contract.clauses w₀.𝓛 w₀.𝓜.mem w₀.𝓡.returns κs args).ensures tt k exit) (r_last _)
+
+abbrev pub FindTold : Finding
+FindTold κs args k exit = Told ((find-contract.clauses w₀.𝓛 w₀.𝓜.mem w₀.𝓡.returns κs args).ensures tt k exit) (r_last _)
+
+abbrev pub ViewTold : Viewing
+ViewTold κs args k exit = Told ((view-contract.clauses w₀.𝓛 w₀.𝓜.mem w₀.𝓡.returns κs args).ensures tt k exit) (r_last _)
 
 -- a list is lent an output too, and leaves it otherwise
-module _ (κs : Lfts 3) (scheme network output : Bor (List ℕ)) where
+module _ (κs : Lfts 3) (scheme network : Bor (List ℕ)) (output : MutBor (List ℕ)) where
   abbrev pub ListLearnt : ℕ → ℕ → Listed → List ℕ → List ℕ → Type 0
   ListLearnt v u answer left after =
       (after ≡ (at_exit list-contract.ended κs (scheme, (network, (v, (u, (output, tt))))) (tt, (tt, (tt, (tt, (left, tt)))))).1.0.now)
-      × list-reads.Learnt κs (scheme, (network, (v, (u, (output, tt))))) answer
-      (at_exit list-contract.ended κs (scheme, (network, (v, (u, (output, tt))))) (tt, (tt, (tt, (tt, (left, tt))))))
+      × Told
+      ((list-contract.clauses w₀.𝓛 w₀.𝓜.mem w₀.𝓡.returns κs (scheme, (network, (v, (u, (output, tt)))))).ensures tt answer
+      (at_exit list-contract.ended κs (scheme, (network, (v, (u, (output, tt))))) (tt, (tt, (tt, (tt, (left, tt)))))))
+      (r_last _)
 
 abbrev pub ListMade : Listing
 ListMade b net v u places answer written after =
     (κs : Lfts 3)
-    × (scheme network output : Bor (List ℕ))
+    × (scheme network : Bor (List ℕ))
+    × (output : MutBor (List ℕ))
     × (told : Listed)
     × (left : List ℕ)
     × (scheme.now ≡ b)
@@ -36,7 +54,7 @@ ListMade b net v u places answer written after =
     × ListLearnt κs scheme network output v u told left after
 
 abbrev pub CallOf : List ℕ → List ℕ → Request → ℕ → List ℕ → List ℕ → Type 0
-CallOf = OneOfFive event-reads.Learnt set_Reads.Learnt find-reads.Learnt view-reads.Learnt ListMade
+CallOf = OneOfFive EventTold SetTold FindTold ViewTold ListMade
 
 -- the turn is one of the five calls on scheme b and a network, and leaves the network so
 abbrev pub CallMade : List ℕ → List ℕ → Turn → List ℕ → Type 0

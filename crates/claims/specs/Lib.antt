@@ -1,2 +1,3 @@
+pub mod Told
 pub mod FiveCalls
 pub mod Cite

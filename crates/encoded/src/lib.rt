@@ -1,4 +1,7 @@
 // Requests of four numbers each: the kind and three more.
+
+#![tactic(auto)]
+
 ghost use Rattle.std.specs.Prelude.{◌≡◌, min, ◌+◌, ◌*◌, ◌≤◌, length, get_or};
 ghost use Rattle.kinds.specs.Kinds.{request_of};
 ghost use Rattle.encoded.specs.Encoded.{decoded, request_at, Turned};

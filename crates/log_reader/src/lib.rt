@@ -1,4 +1,7 @@
 // The log reader (document 01, "Next log record").
+
+#![tactic(auto)]
+
 ghost use Rattle.std.specs.Prelude.{◌≡◌};
 ghost use Rattle.log_records.specs.Read.{Read};
 
