@@ -1,4 +1,7 @@
 // The call of a log's record (document 01, "Log program").
+
+#![tactic(auto)]
+
 ghost use Rattle.std.specs.Prelude.{◌≡◌};
 ghost use Rattle.record_call.specs.Lined.{Lined};
 

@@ -1,4 +1,7 @@
 // A run of a list of calls.
+
+#![tactic(auto)]
+
 ghost use Rattle.std.specs.Prelude.{◌≡◌};
 ghost use Rattle.traces.specs.Ran.{fitting, Ran, Kept};
 
