@@ -4,7 +4,7 @@ use mathlib.Core.Path.{◌≡◌, refl}
 use mathlib.Core.List.{List, []}
 use lib.ListN.{length, take}
 use contract.Lifetimes.{Lfts}
-use denote.Ref.{Bor}
+use Rattle.std.specs.Borrow.{Bor, MutBor}
 use denote.Triple.Clauses.{at_exit}
 use Rattle.model.specs.Answers.{Answers}
 use Rattle.model.specs.SchemeBytes.{scheme_needs}
@@ -27,7 +27,7 @@ use Rattle.gatekeeper.proofs.gatekeeper_list.Reads as list-reads
 use Rattle.gatekeeper.proofs.gatekeeper_degree.Reads as degree-reads
 use Rattle.gatekeeper.proofs.gatekeeper_suggest.Reads as suggest-reads
 use Rattle.gatekeeper.proofs.gatekeeper_view.Reads as view-reads
-use Rattle.exported.specs.Cite.{ListLearnt, ListMade}
+use Rattle.exported.specs.Cite.{EventTold, SetTold, FindTold, ViewTold, ListLearnt, ListMade}
 
 -- a caller has nothing to show, and what is learnt is what the specification says, no less and no more
 module _ (κs : Lfts 1) (scheme : Bor (List ℕ)) where
@@ -43,7 +43,7 @@ module _ (κs : Lfts 1) (scheme : Bor (List ℕ)) where
   pub length_learnt : (r : ℕ) → length-reads.Learnt κs (scheme, tt) r (at_exit length-contract.ended κs (scheme, tt) (tt, tt)) ≡ LengthOf scheme.now r
   length_learnt r = refl
 
-module _ (κs : Lfts 2) (scheme network : Bor (List ℕ)) where
+module _ (κs : Lfts 2) (scheme : Bor (List ℕ)) (network : MutBor (List ℕ)) where
   pub fresh_asks_nothing : fresh-reads.Asked κs (scheme, (network, tt))
   fresh_asks_nothing = tt
 
@@ -59,6 +59,13 @@ module _ (κs : Lfts 2) (scheme network : Bor (List ℕ)) where
       → Changed κs scheme network event-reads.Learnt v u a k after ≡ Called scheme.now network.now (answered (event v u a) k) after
   event_learnt v u a k after = refl
 
+  -- and it is what Rattle's own reading of the contract tells every caller
+  pub event_told : (v u a k : ℕ) (after : List ℕ) → Changed κs scheme network EventTold v u a k after ≡ Changed κs scheme network event-reads.Learnt v u a k after
+  event_told v u a k after = refl
+
+  pub set_told : (u r p k : ℕ) (after : List ℕ) → Changed κs scheme network SetTold u r p k after ≡ Changed κs scheme network set_Reads.Learnt u r p k after
+  set_told u r p k after = refl
+
   pub set_asks_nothing : (u r p : ℕ) → set_Reads.Asked κs (scheme, (network, (u, (r, (p, tt)))))
   set_asks_nothing u r p = tt
 
@@ -66,6 +73,7 @@ module _ (κs : Lfts 2) (scheme network : Bor (List ℕ)) where
       → Changed κs scheme network set_Reads.Learnt u r p k after ≡ Called scheme.now network.now (answered (set_policy u r p) k) after
   set_learnt u r p k after = refl
 
+module _ (κs : Lfts 2) (scheme network : Bor (List ℕ)) where
   pub find_asks_nothing : (v u : ℕ) → find-reads.Asked κs (scheme, (network, (v, (u, tt))))
   find_asks_nothing v u = tt
 
@@ -73,6 +81,12 @@ module _ (κs : Lfts 2) (scheme network : Bor (List ℕ)) where
       → Found κs scheme network find-reads.Learnt v u k after
       ≡ ((after ≡ network.now) × Called scheme.now network.now (answered (find v u) k) network.now)
   find_learnt v u k after = refl
+
+  pub find_told : (v u k : ℕ) (after : List ℕ) → Found κs scheme network FindTold v u k after ≡ Found κs scheme network find-reads.Learnt v u k after
+  find_told v u k after = refl
+
+  pub view_told : (v u o k : ℕ) (after : List ℕ) → Viewed κs scheme network ViewTold v u o k after ≡ Viewed κs scheme network view-reads.Learnt v u o k after
+  view_told v u o k after = refl
 
   pub view_asks_nothing : (v u o : ℕ) → view-reads.Asked κs (scheme, (network, (v, (u, (o, tt)))))
   view_asks_nothing v u o = tt
@@ -82,7 +96,7 @@ module _ (κs : Lfts 2) (scheme network : Bor (List ℕ)) where
       ≡ ((after ≡ network.now) × Called scheme.now network.now (answered (view v u o) k) network.now)
   view_learnt v u o k after = refl
 
-module _ (κs : Lfts 3) (scheme network : Bor (List ℕ)) (degree : Bor ℕ) where
+module _ (κs : Lfts 3) (scheme network : Bor (List ℕ)) (degree : MutBor ℕ) where
   pub degree_asks_nothing : (v u : ℕ) → degree-reads.Asked κs (scheme, (network, (v, (u, (degree, tt)))))
   degree_asks_nothing v u = tt
 
@@ -92,7 +106,7 @@ module _ (κs : Lfts 3) (scheme network : Bor (List ℕ)) (degree : Bor ℕ) whe
       ≡ DegreeAnswered scheme.now network.now v u degree.now k told
   degree_learnt v u k told = refl
 
-module _ (κs : Lfts 4) (scheme network output : Bor (List ℕ)) (count : Bor ℕ) where
+module _ (κs : Lfts 4) (scheme network : Bor (List ℕ)) (output : MutBor (List ℕ)) (count : MutBor ℕ) where
   pub list_asks_nothing : (v u : ℕ) → list-reads.Asked κs (scheme, (network, (v, (u, (output, (count, tt))))))
   list_asks_nothing v u = tt
 

@@ -6,11 +6,7 @@ use lib.ListN.{take}
 use Rattle.model.specs.Requests.{list, granted, Turn}
 use Rattle.model.specs.Calls.{Called}
 use Rattle.claims.proofs.FromContracts.{sound as five-sound}
-use Rattle.gatekeeper.proofs.gatekeeper_event.Reads as event-reads
-use Rattle.gatekeeper.proofs.gatekeeper_set.Reads as set_Reads
-use Rattle.gatekeeper.proofs.gatekeeper_find.Reads as find-reads
-use Rattle.gatekeeper.proofs.gatekeeper_view.Reads as view-reads
-use Rattle.exported.specs.Cite.{ListMade, ExportedCall}
+use Rattle.exported.specs.Cite.{EventTold, SetTold, FindTold, ViewTold, ListMade, ExportedCall}
 
 counted_on_grant : (answer count : ℕ) (l : List ℕ) → granted answer (take count l) [] ≡ take (granted answer count 0) l
 counted_on_grant zero count l = refl
@@ -23,7 +19,7 @@ list_says b net v u places answer written after (κs, s, n, o, count, left, coun
 
 pub sound : (b net : List ℕ) (t : Turn) (after : List ℕ) → ExportedCall b net t after → Called b net t after
 sound b net t after c =
-    five-sound event-reads.Learnt set_Reads.Learnt find-reads.Learnt view-reads.Learnt ListMade
+    five-sound EventTold SetTold FindTold ViewTold ListMade
     (λ v u a k κs s n after h. h)
     (λ u r p k κs s n after h. h)
     (λ v u k κs s n after (e, h). rw e h)

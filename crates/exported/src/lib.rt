@@ -1,4 +1,7 @@
 // The claims about every list of exported calls (document 01, "Demand 3's plain machine").
+
+#![tactic(auto)]
+
 ghost use Rattle.model.specs.Claims.{FromFresh, FromValid, EveryTrace, RunsReplayed, ViewGranted, ItemsUnseen};
 ghost use Rattle.exported.specs.Cite.{ExportedCall};
 

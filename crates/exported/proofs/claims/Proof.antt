@@ -30,5 +30,5 @@ returns c = (
   ),
 )
 
-pub claims-spec : {M : Type 1} → statement M
-claims-spec = tie.close (tie.spec returns)
+pub claims_spec : {M : Type 1} → statement M
+claims_spec = tie.close (tie.spec returns)
