@@ -74,8 +74,8 @@ loop-again c =
         still_marked w.spread.ensures (omega arith) (omega arith) w.unmarked-from.ensures,
       )
       | else-distances-m w ↦
-        rw (w.distances-is, w.from-is, w.some-is)
-        (omega arith, layer_pass x s.requires.1 (omega arith) w.if-distances-m.false, l.loop-m.invariant.2)
+          rw (w.distances-is, w.from-is, w.some-is)
+          (omega arith, layer_pass x s.requires.1 (omega arith) w.if-distances-m.false, l.loop-m.invariant.2)
     ]
 
 same-length-2 : tie.Need-shape_of-distances invariant-loop decreases-loop

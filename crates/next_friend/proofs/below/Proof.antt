@@ -63,11 +63,13 @@ loop-less c = omega arith
 
 loop-again : tie.Need-loop-k-preserved invariant-loop decreases-loop
 loop-again c =
-    let x = c.loop-k.invariant.1 in
-    (omega arith, elim c.if-marked.branch [
+    let x = c.loop-k.invariant.1 in (
+      omega arith,
+      elim c.if-marked.branch [
         | then-marked+else-seen-k-eq0 w ↦ pass_seen x w.if-seen-k-eq0.false
         | else-marked w ↦ pass_stranger x (says c.before) w.if-marked.false
-      ])
+      ],
+    )
 
 returns-2 : tie.Need-returns invariant-loop decreases-loop
 returns-2 c = pass_end c.loop-k.invariant.1 (omega arith) (omega arith)

@@ -30,8 +30,8 @@ measured c =
     let e = s.requires.0.counts.policies in
     elim c.if-limit-ne0.branch [
       | then-limit-ne0 w ↦
-        measured_read b net s.args.v _ _ d c.if-limit-ne0.distances far e w.if-limit-ne0.true (rw w.distances-is w.fill.ensures.0)
-        (rw w.distances-is w.fill.ensures.1)
+          measured_read b net s.args.v _ _ d c.if-limit-ne0.distances far e w.if-limit-ne0.true (rw w.distances-is w.fill.ensures.0)
+          (rw w.distances-is w.fill.ensures.1)
       | else-limit-ne0 w ↦ measured_unread b net s.args.v _ _ d c.if-limit-ne0.distances far e w.if-limit-ne0.false s.requires.2 w.distances-is
     ]
 

@@ -59,10 +59,10 @@ loop-again c =
       omega arith,
       elim c.if-seen-k-eq0.branch [
         | then-seen-k-eq0+then-k-u+then-allows w ↦
-          rw w.seen-is (add_allowed x (omega arith) (omega arith) w.if-seen-k-eq0.true w.if-allows.true w.allows.ensures)
+            rw w.seen-is (add_allowed x (omega arith) (omega arith) w.if-seen-k-eq0.true w.if-allows.true w.allows.ensures)
         | then-seen-k-eq0+then-k-u+else-allows w ↦ rw w.seen-is (skip_refused x w.if-allows.false w.allows.ensures)
         | then-seen-k-eq0+else-k-u w ↦
-          let u : a.loop-k.k ≡ (start a).args.u = omega (arith, w.if-k-u.false) in rw w.seen-is (skip_other x (rw u (p.3 (omega arith))))
+            let u : a.loop-k.k ≡ (start a).args.u = omega (arith, w.if-k-u.false) in rw w.seen-is (skip_other x (rw u (p.3 (omega arith))))
         | else-seen-k-eq0 w ↦ rw w.seen-is (skip_seen x w.if-seen-k-eq0.false)
       ],
     )

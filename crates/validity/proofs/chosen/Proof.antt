@@ -103,11 +103,11 @@ returns c =
     let all : Collected a.s.now a.at a.stride a.members c.if-m-members.one l.other =
     elim c.if-m-members.branch [
       | then-m-members w ↦
-        let e : l.m + 1 ≡ a.members = omega (arith, w.if-m-members.true, c.loop-m-test.false) in
-        rw w.one-is (rw e at (collected_more l.invariant.1 (rw l.invariant.1 (c.requires.1 l.m w.if-m-members.true)) l.invariant.2))
+          let e : l.m + 1 ≡ a.members = omega (arith, w.if-m-members.true, c.loop-m-test.false) in
+          rw w.one-is (rw e at (collected_more l.invariant.1 (rw l.invariant.1 (c.requires.1 l.m w.if-m-members.true)) l.invariant.2))
       | else-m-members w ↦
-        let e : l.m ≡ a.members = omega (arith, w.if-m-members.false, l.invariant.0) in
-        rw w.one-is (rw e at l.invariant.2)
+          let e : l.m ≡ a.members = omega (arith, w.if-m-members.false, l.invariant.0) in
+          rw w.one-is (rw e at l.invariant.2)
     ] in
     collected all
 
