@@ -1,4 +1,4 @@
-/* The gatekeeper's calls for C (crates/gatekeeper). Every call but that for a length answers document 01's number.
+/* The gatekeeper's calls for C (crates/gatekeeper_c). Every call but that for a length answers document 01's number.
  *
  * The calls are proved for any bytes and any numbers. What follows is asked of the caller, and nothing checks it here:
  *

@@ -1,6 +1,6 @@
 #!/usr/bin/env python3
-"""Tests of docs/reference.md: that it and the definitions name each other, that its tables and bytes are those of reference.py, and
-that its calls are those of the library's header: python3 tools/test_reference_page.py"""
+"""Tests of docs/reference.md: that it and the definitions name each other, that its tables and bytes are those of reference.py, that
+its calls are those of the library's header, and that what the library exports has gatekeeper's clauses: python3 tools/test_reference_page.py"""
 import glob
 import os
 import re
@@ -100,6 +100,21 @@ class Tables(unittest.TestCase):
         self.assertEqual(sorted(re.findall(r'(?m)^\w+ gatekeeper_(\w+)\(', header)), sorted(calls + ['network_length']))
         none = int(re.search(r'#define GATEKEEPER_DEGREE_NONE (\d+)', header)[1])
         self.assertIn('{:,} for none'.format(none), SECTIONS['Calls from other languages'])
+
+    def test_exports(self):
+        """The library exports the calls of the header, each with the parameters, the result and the clauses of gatekeeper's function."""
+        def functions(crate, head):
+            code = content('crates', crate, 'src', 'lib.rt').decode()
+            found = re.findall(r'(?ms)^%sfn gatekeeper_(\w+)(\(.*?)^\{$' % re.escape(head), code)
+            return {name: re.sub(r'\s', '', told).replace(',)', ')') for name, told in found}, set(re.findall('(?m)^ghost use .*', code))
+
+        calls, meant = functions('gatekeeper', 'pub ')
+        exports, named = functions('gatekeeper_c', '#[unsafe(no_mangle)]\npub extern "C" ')
+        self.assertEqual(exports, calls)
+        self.assertLessEqual(named, meant)
+        header = content('library', 'gatekeeper.h').decode()
+        self.assertEqual(sorted(exports), sorted(re.findall(r'(?m)^\w+ gatekeeper_(\w+)\(', header)))
+        self.assertTrue(all('ensures{' in told for told in exports.values()))
 
     def test_refusals_of_each_call(self):
         for call, _, refusals, _ in rows('The calls', 'call'):

@@ -22,7 +22,7 @@ from scheme_faults import SENTENCES, examine
 from scheme_text import numbered_names, parse_scheme, scheme_text
 from text_lines import BadText, escaped, shown
 
-PROGRAM = os.path.join(os.path.dirname(os.path.abspath(__file__)), '..', 'target', 'bin', 'log_program')    # the log program
+PROGRAM = os.path.join(os.path.dirname(os.path.abspath(__file__)), '..', 'crates', 'log_program', 'out', 'log_program')    # the log program
 TEXT_LIMIT = 2 ** 24        # bytes of a text
 
 
@@ -260,7 +260,7 @@ def arguments():
         if name == 'read':
             command.add_argument('--replace', action='store_true', help='write over texts that are there already')
         if name == 'run':
-            command.add_argument('--program', default=PROGRAM, metavar='PATH', help='the log program; else target/bin/log_program')
+            command.add_argument('--program', default=PROGRAM, metavar='PATH', help='the log program; else crates/log_program/out/log_program')
     return parser.parse_args()
 
 

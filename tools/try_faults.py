@@ -2,7 +2,7 @@
 """Runs the log program where reading or printing fails. A file of which a read fails counts as empty; after a failed write nothing
 more is printed, so that what was printed is the front of the right text; what is only interrupted or short is done to its end.
 
-    try_faults.py [PROGRAM]     else target/bin/log_program
+    try_faults.py [PROGRAM]     else crates/log_program/out/log_program
 
 Devices, pipes, limits and signals give the faults, and strace those that nothing else gives on purpose.
 """

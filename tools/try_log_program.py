@@ -2,7 +2,7 @@
 """Runs the log program on files and compares what it prints: on every case of log_cases, with their stored stdout, and on
 files that no case can hold, such as missing ones and those of 70,000 bytes, with reference.py.
 
-    try_log_program.py [PROGRAM]        else target/bin/log_program
+    try_log_program.py [PROGRAM]        else crates/log_program/out/log_program
 """
 import os
 import re

@@ -12,16 +12,14 @@ use scheme::Reading;
 use suggestions::Suggested;
 
 // The scheme check.
-#[unsafe(no_mangle)]
-pub extern "C" fn gatekeeper_check(scheme: &[u8]) -> u8
+pub fn gatekeeper_check(scheme: &[u8]) -> u8
     ensures { Answers (scheme_needs scheme.now) result }
 {
     scheme::number(scheme::check(scheme))
 }
 
 // How many bytes a network has under an accepted scheme; 0 under any other.
-#[unsafe(no_mangle)]
-pub extern "C" fn gatekeeper_network_length(scheme: &[u8]) -> usize
+pub fn gatekeeper_network_length(scheme: &[u8]) -> usize
     ensures { LengthOf scheme.now result }
 {
     let reading = scheme::check(scheme);
@@ -32,52 +30,35 @@ pub extern "C" fn gatekeeper_network_length(scheme: &[u8]) -> usize
 }
 
 // Fresh: makes a lent network fresh.
-#[unsafe(no_mangle)]
-pub extern "C" fn gatekeeper_fresh(scheme: &[u8], network: &mut [u8]) -> u8
+pub fn gatekeeper_fresh(scheme: &[u8], network: &mut [u8]) -> u8
     ensures { Freshened scheme.now network.old result network.new }
 {
     fresh::fresh(scheme, network)
 }
 
 // Event: v uses primitive a towards u.
-#[unsafe(no_mangle)]
-pub extern "C" fn gatekeeper_event(
-    scheme: &[u8],
-    network: &mut [u8],
-    v: usize,
-    u: usize,
-    a: usize,
-) -> u8
+pub fn gatekeeper_event(scheme: &[u8], network: &mut [u8], v: usize, u: usize, a: usize) -> u8
     ensures { Called scheme.now network.old (answered (event v u a) result) network.new }
 {
     changes::event(scheme, network, v, u, a)
 }
 
 // Set: u chooses policy p for resource r.
-#[unsafe(no_mangle)]
-pub extern "C" fn gatekeeper_set(
-    scheme: &[u8],
-    network: &mut [u8],
-    u: usize,
-    r: usize,
-    p: usize,
-) -> u8
+pub fn gatekeeper_set(scheme: &[u8], network: &mut [u8], u: usize, r: usize, p: usize) -> u8
     ensures { Called scheme.now network.old (answered (set_policy u r p) result) network.new }
 {
     changes::set(scheme, network, u, r, p)
 }
 
 // Find: whether v finds u.
-#[unsafe(no_mangle)]
-pub extern "C" fn gatekeeper_find(scheme: &[u8], network: &[u8], v: usize, u: usize) -> u8
+pub fn gatekeeper_find(scheme: &[u8], network: &[u8], v: usize, u: usize) -> u8
     ensures { Called scheme.now network.now (answered (find v u) result) network.now }
 {
     requests::find(scheme, network, v, u)
 }
 
 // List: v asks for u's friends. Only a grant writes the count.
-#[unsafe(no_mangle)]
-pub extern "C" fn gatekeeper_list(
+pub fn gatekeeper_list(
     scheme: &[u8],
     network: &[u8],
     v: usize,
@@ -96,14 +77,7 @@ pub extern "C" fn gatekeeper_list(
 }
 
 // Degree: the least number of friendships between v and u, 65535 for none. Only a grant writes it.
-#[unsafe(no_mangle)]
-pub extern "C" fn gatekeeper_degree(
-    scheme: &[u8],
-    network: &[u8],
-    v: usize,
-    u: usize,
-    degree: &mut u16,
-) -> u8
+pub fn gatekeeper_degree(scheme: &[u8], network: &[u8], v: usize, u: usize, degree: &mut u16) -> u8
     ensures { DegreeAnswered scheme.now network.now v u degree.old result degree.new }
 {
     match degree::degree(scheme, network, v, u) {
@@ -120,8 +94,7 @@ pub extern "C" fn gatekeeper_degree(
 }
 
 // Suggest: the first c of the members that v might know. Only a grant writes the count.
-#[unsafe(no_mangle)]
-pub extern "C" fn gatekeeper_suggest(
+pub fn gatekeeper_suggest(
     scheme: &[u8],
     network: &[u8],
     v: usize,
@@ -141,8 +114,7 @@ pub extern "C" fn gatekeeper_suggest(
 }
 
 // View: v asks for item o of u.
-#[unsafe(no_mangle)]
-pub extern "C" fn gatekeeper_view(scheme: &[u8], network: &[u8], v: usize, u: usize, o: usize) -> u8
+pub fn gatekeeper_view(scheme: &[u8], network: &[u8], v: usize, u: usize, o: usize) -> u8
     ensures { Called scheme.now network.now (answered (view v u o) result) network.now }
 {
     requests::view(scheme, network, v, u, o)

@@ -1,4 +1,4 @@
-// Compares the files of examples/standard, which are links to this crate's data/, with the proved bytes.
+// Compares the files of examples/standard, of which this crate's data/ has copies, with the proved bytes.
 
 #![tactic(auto)]
 
