@@ -18,8 +18,9 @@ TOKEN = re.compile(r"[^\s(){}\[\].,;:λ◌∷×≡<≤→←⊎+*/^%&|=!?\"`]+")
 LEMMAS = ('bit-and', 'bit-or', 'lowest-from', 'is-record', 'is-clique', 'has-degree', 'friend-of-all', 'sides-for', 'next-in', 'event-judged',
           'by-word', 'kind-of', 'is_within', 'too_long')
 
-# constructors that stand several in a line, and two names that a `ghost use` gives
-MORE = ('any-side', 'owner-lesser', 'owner-greater', 'owner-only', 'twoAt', 'fourAt')
+# constructors that stand several in a line, and names that a `ghost use` gives
+MORE = ('any-side', 'owner-lesser', 'owner-greater', 'owner-only', 'twoAt', 'fourAt', 'lowestOf', 'eventRequest', 'pairCount', 'readingNumber', 'setByte',
+        'findRequest', 'viewRequest')
 
 
 def snake(name):
@@ -66,14 +67,23 @@ def main():
     for name, to in new.items():
         if to in names and to not in new:
             print('falls together: %s and %s' % (name, to))
+    met = set()
+
+    def turn(match):
+        name = match.group(0)
+        if name not in new:
+            return name
+        met.add(name)
+        return new[name]
+
     for path in files(('specs', 'proofs', 'src')):
         text = read(path)
-        turned = TOKEN.sub(lambda m: new.get(m.group(0), m.group(0)), text)
+        turned = TOKEN.sub(turn, text)
         if turned != text:
             with open(path, 'w', encoding='utf-8') as file:
                 file.write(turned)
-    for name, to in sorted(new.items()):
-        print('%s -> %s' % (name, to))
+    for name in sorted(met):
+        print('%s -> %s' % (name, new[name]))
 
 
 if __name__ == '__main__':

@@ -2,7 +2,7 @@
 
 #![tactic(auto)]
 
-ghost use Rattle.model.specs.Requests.{event as eventRequest, set_policy, answered};
+ghost use Rattle.model.specs.Requests.{event as event_request, set_policy, answered};
 ghost use Rattle.model.specs.Calls.{Called};
 
 use scheme::Reading;
@@ -27,7 +27,7 @@ pub fn set(scheme: &[u8], network: &mut [u8], u: usize, r: usize, p: usize) -> u
 
 // Event: v uses primitive a towards u.
 pub fn event(scheme: &[u8], network: &mut [u8], v: usize, u: usize, a: usize) -> u8
-    ensures { Called scheme.now network.old (answered (eventRequest v u a) result) network.new }
+    ensures { Called scheme.now network.old (answered (event_request v u a) result) network.new }
 {
     let reading = opening::open(scheme, network, v, u);
     let Reading::Accepted(c) = reading else {

@@ -75,6 +75,13 @@ module _ (κs : Lfts 3) (scheme network : Bor (List ℕ)) (output : MutBor (List
       ≡ ((after ≡ network.now) × ListCalled scheme.now network.now v u output.now told left)
   list_learnt v u told left after = refl
 
+  pub list_told : (v u : ℕ) (told : Listed) (left after : List ℕ)
+      → ListLearnt κs scheme network output v u told left after
+      ≡ ((after ≡ network.now)
+      × list-reads.Learnt κs (scheme, (network, (v, (u, (output, tt))))) told
+      (at_exit list-contract.ended κs (scheme, (network, (v, (u, (output, tt))))) (tt, (tt, (tt, (tt, (left, tt)))))))
+  list_told v u told left after = refl
+
   -- whatever a caller learns of a list is such a call
   pub list_heard : (v u : ℕ) (told : Listed) (left : List ℕ)
       → list-reads.Learnt κs (scheme, (network, (v, (u, (output, tt))))) told

@@ -115,6 +115,13 @@ module _ (κs : Lfts 4) (scheme network : Bor (List ℕ)) (output : MutBor (List
       ≡ ((after ≡ network.now) × ListAnswered scheme.now network.now v u output.now count.now k left counted)
   list_learnt v u k left counted after = refl
 
+  pub list_told : (v u k : ℕ) (left : List ℕ) (counted : ℕ) (after : List ℕ)
+      → ListLearnt κs scheme network output count v u k left counted after
+      ≡ ((after ≡ network.now)
+      × list-reads.Learnt κs (scheme, (network, (v, (u, (output, (count, tt)))))) k
+      (at_exit list-contract.ended κs (scheme, (network, (v, (u, (output, (count, tt)))))) (tt, (tt, (tt, (tt, (left, (counted, tt))))))))
+  list_told v u k left counted after = refl
+
   -- whatever a caller learns of a list is such a call
   pub list_heard : (v u k : ℕ) (left : List ℕ) (counted : ℕ)
       → list-reads.Learnt κs (scheme, (network, (v, (u, (output, (count, tt)))))) k

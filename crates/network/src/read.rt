@@ -1,7 +1,7 @@
 // Reads of a network that passes 5.
 ghost use Rattle.std.specs.Prelude.{◌≡◌, ◌+◌, ◌%◌, ◌<◌, ◌≤◌};
 ghost use Rattle.model.specs.Bytes.{bit};
-ghost use Rattle.model.specs.Network.{held, state_of, pairs as pairCount, size as size_of};
+ghost use Rattle.model.specs.Network.{held, state_of, pairs as pair_count, size as size_of};
 ghost use Rattle.model.specs.SchemeBytes.{scheme_of};
 ghost use Rattle.tables.specs.Read.{ReadAs};
 ghost use Rattle.network.specs.Ready.{Ready, graph_of};
@@ -11,7 +11,7 @@ use tables::Summary;
 // How many pairs members have.
 pub fn pairs(members: usize) -> usize
     requires { members ≤ 256 }
-    ensures { (result ≡ pairCount members) × (result ≤ 32640) }
+    ensures { (result ≡ pair_count members) × (result ≤ 32640) }
 {
     if members == 0 {
         return 0;
@@ -22,7 +22,7 @@ pub fn pairs(members: usize) -> usize
 // How many bytes a network has.
 pub fn size(scheme: &[u8], c: Summary) -> usize
     requires { ReadAs scheme.now c }
-    ensures { (result ≡ size_of (scheme_of scheme.now)) × (pairCount c.members ≤ result) × (result ≤ 39296) }
+    ensures { (result ≡ size_of (scheme_of scheme.now)) × (pair_count c.members ≤ result) × (result ≤ 39296) }
 {
     pairs(c.members) + c.members * tables::resources(c)
 }

@@ -2,7 +2,7 @@
 
 #![tactic(auto)]
 
-ghost use Rattle.model.specs.Requests.{find as findRequest, view as viewRequest, answered};
+ghost use Rattle.model.specs.Requests.{find as find_request, view as view_request, answered};
 ghost use Rattle.model.specs.Calls.{Called};
 ghost use Rattle.requests.specs.Answered.{ListCalled};
 
@@ -17,7 +17,7 @@ pub enum Listed {
 
 // Find: whether v finds u.
 pub fn find(scheme: &[u8], network: &[u8], v: usize, u: usize) -> u8
-    ensures { Called scheme.now network.now (answered (findRequest v u) result) network.now }
+    ensures { Called scheme.now network.now (answered (find_request v u) result) network.now }
 {
     let reading = opening::open(scheme, network, v, u);
     let Reading::Accepted(c) = reading else {
@@ -31,7 +31,7 @@ pub fn find(scheme: &[u8], network: &[u8], v: usize, u: usize) -> u8
 
 // View: v asks for item o of u.
 pub fn view(scheme: &[u8], network: &[u8], v: usize, u: usize, o: usize) -> u8
-    ensures { Called scheme.now network.now (answered (viewRequest v u o) result) network.now }
+    ensures { Called scheme.now network.now (answered (view_request v u o) result) network.now }
 {
     let reading = opening::open(scheme, network, v, u);
     let Reading::Accepted(c) = reading else {

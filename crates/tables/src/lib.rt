@@ -4,7 +4,7 @@
 
 ghost use Rattle.std.specs.Prelude.{◌≡◌, List, ℕ, ◌+◌, ◌<◌, ◌≤◌};
 ghost use Rattle.model.specs.Bytes.{bit};
-ghost use Rattle.model.specs.Scheme.{lowest as lowestOf};
+ghost use Rattle.model.specs.Scheme.{lowest as lowest_of};
 ghost use Rattle.model.specs.SchemeBytes.{at3, at4, at5, scheme_of};
 ghost use Rattle.tables.specs.Read.{CountsOf, InRange, ReadAs};
 
@@ -77,7 +77,7 @@ pub fn offered(mask: u32, p: usize) -> bool
 // The lowest policy number in a mask.
 pub fn lowest(mask: u32) -> usize
     requires { 1 ≤ mask }
-    ensures { (result ≡ lowestOf mask) × (result < 32) }
+    ensures { (result ≡ lowest_of mask) × (result < 32) }
 {
     u32::trailing_zeros(mask) as usize
 }

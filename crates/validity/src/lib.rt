@@ -5,7 +5,7 @@
 ghost use Rattle.std.specs.Prelude.{◌≡◌, true, ◌↔◌, ℕ, ◌+◌, ◌*◌, ◌<◌, ◌≤◌, length};
 ghost use Rattle.model.specs.Decides.{Decides};
 ghost use Rattle.model.specs.Bytes.{bit, byte};
-ghost use Rattle.model.specs.Network.{Valid, size, setting_place, pairs as pairCount};
+ghost use Rattle.model.specs.Network.{Valid, size, setting_place, pairs as pair_count};
 ghost use Rattle.model.specs.SchemeBytes.{scheme_of};
 ghost use Rattle.tables.specs.Read.{ReadAs};
 ghost use Rattle.validity.specs.Chosen.{Chosen};
@@ -65,7 +65,7 @@ fn column_offered(s: &[u8], at: usize, stride: usize, members: usize, mask: u32,
 // Whether every setting is in its resource's mask; all are in a wider set.
 fn settings_offered(scheme: &[u8], c: Summary, network: &[u8], wider: u32) -> bool
     requires read_as { ReadAs scheme.now c × (length network.now ≡ size (scheme_of scheme.now)) }
-    requires by_index { (k : ℕ) → pairCount c.members ≤ k → k < length network.now → bit wider (byte network.now k) ≡ true }
+    requires by_index { (k : ℕ) → pair_count c.members ≤ k → k < length network.now → bit wider (byte network.now k) ≡ true }
     ensures { Decides result ((m r : ℕ) → m < c.members → r < 2 + c.primitives + c.items → bit ((scheme_of scheme.now).mask r) (byte network.now (setting_place (scheme_of scheme.now) m r)) ≡ true) }
 {
     let from = network::read::pairs(c.members);
