@@ -1,10 +1,10 @@
 -- The two halves of the Adler-32 sum, byte by byte.
-use Prim.Native.Nat.{ℕ, ◌+◌, ◌*◌, ◌%◌}
+use Prim.Native.Nat.{ℕ, ◌+◌, ◌%◌}
 use mathlib.Core.Path.{◌≡◌, refl}
 use mathlib.Core.List.{List}
 use native.Mathlib.Numerals.{add-one}
-use lib.ListN.{length, get_or}
-use Rattle.cases.specs.Sums.{low, high, adler}
+use lib.ListN.{get_or}
+use Rattle.cases.specs.Sums.{low, high}
 
 -- l and h are the halves after i bytes
 pub record Halves (b : List ℕ) (i l h : ℕ) : Type 0 where
@@ -18,6 +18,3 @@ halves_none b = record { low = refl; high = refl }
 pub halves_next : {b : List ℕ} {i l h x : ℕ} → Halves b i l h → x ≡ get_or b i 0 → Halves b (i + 1) ((l + x) % 65521) ((h + (l + x) % 65521) % 65521)
 unfolding low high
 halves_next {i = i} s e = rw (add-one i, s.low, s.high, e) (record { low = refl; high = refl })
-
-pub halves_all : {b : List ℕ} {i l h : ℕ} → Halves b i l h → i ≡ length b → h * 65536 + l ≡ adler b
-halves_all s e = rw (s.low, s.high, e) refl

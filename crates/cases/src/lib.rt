@@ -3,25 +3,42 @@
 
 #![tactic(auto)]
 
-ghost use Rattle.std.specs.Prelude.{◌≡◌, ◌<◌, ◌≤◌, length};
-ghost use Rattle.cases.specs.Parts.{Small, Within, Kept};
+ghost use Rattle.std.specs.Prelude.{◌≡◌, ◌<◌, ◌≤◌, ℕ, length, IfOk, IfErr, Err};
+ghost use Rattle.cases.specs.declared.Stop.TheVariants.{Output};
+ghost use Rattle.cases.specs.Parts.{Within, Kept};
 ghost use Rattle.cases.specs.Places.{Filled};
 ghost use Rattle.cases.specs.Sums.{adler};
 
+use std::io;
 use std::io::Read;
 
-// What reading a number finds: the number, or the end of the input.
-#[derive(Drop)]
-pub enum Number {
-    Is(usize),
+// Why a run of cases stops: the input ends, or has no further case, or the output fails.
+#[derive(Debug, Drop)]
+pub enum Stop {
     End,
+    Output(io::Error),
 }
 
-// What reading a part of a case finds: so many bytes, now at the front of the buffer, or the end of the input.
-#[derive(Drop)]
-pub enum Part {
-    Bytes(usize),
-    End,
+impl From<io::Error> for Stop {
+    fn from(error: io::Error) -> Stop {
+        Stop::Output(error)
+    }
+}
+
+// Runs a case after the other, numbered from 1 on, until one stops. A proved loop has to end, and nothing says that the input does:
+// the bound is one that no run reaches.
+pub fn run<F: FnMut(u64) -> Result<(), Stop>>(mut run_case: F) -> io::Result<()>
+    requires { F.IsAlwaysCallable run_case }
+    ensures { IfErr result (λ error. (before : F) × (number : ℕ) × (after : F) × F.step before number (Err (Output error)) after) }
+{
+    for number in 1..1000000 {
+        match run_case(number) {
+            Ok(()) => {}
+            Err(Stop::End) => return Ok(()),
+            Err(Stop::Output(error)) => return Err(error),
+        }
+    }
+    Ok(())
 }
 
 // Reads until the buffer is full, the input ends or a read fails; how many bytes it put at the front of the buffer.
@@ -30,52 +47,45 @@ pub fn read_full<R: Read>(input: &mut R, buffer: &mut [u8]) -> usize
 {
     let mut done: usize = 0;
     while done < buffer.len() {
-        let Ok(count) = input.read(&mut buffer[done..]) else {
-            return done;
-        };
-        if count == 0 {
-            return done;
+        match input.read(&mut buffer[done..]) {
+            Ok(count) if count > 0 => done += count,
+            _ => return done,
         }
-        done += count;
     }
     done
 }
 
-// Reads a 2-byte number.
-pub fn read_number<R: Read>(input: &mut R) -> Number
-    ensures { Small result }
-{
-    let mut bytes = [0u8; 2];
-    if read_full(input, &mut bytes) < 2 {
-        return Number::End;
+// Reads so many bytes.
+fn read_bytes<R: Read, const N: usize>(input: &mut R) -> Result<[u8; N], Stop> {
+    let mut bytes = [0u8; N];
+    if read_full(input, &mut bytes) < N {
+        return Err(Stop::End);
     }
-    Number::Is(records::two(&bytes, 0))
+    Ok(bytes)
+}
+
+// Reads a 2-byte number.
+pub fn read_number<R: Read>(input: &mut R) -> Result<usize, Stop>
+    ensures { IfOk result (λ n. n < 65536) }
+{
+    Ok(usize::from(u16::from_le_bytes(read_bytes(input)?)))
 }
 
 // Reads an 8-byte number.
-pub fn read_long<R: Read>(input: &mut R) -> Number {
-    let mut bytes = [0u8; 8];
-    if read_full(input, &mut bytes) < 8 {
-        return Number::End;
-    }
-    let low = records::two(&bytes, 0) + 65536 * records::two(&bytes, 2);
-    let high = records::two(&bytes, 4) + 65536 * records::two(&bytes, 6);
-    Number::Is(low + 4294967296 * high)
+pub fn read_long<R: Read>(input: &mut R) -> Result<usize, Stop> {
+    Ok(u64::from_le_bytes(read_bytes(input)?) as usize)
 }
 
-// Reads a 2-byte length and that many bytes.
-pub fn read_part<R: Read>(input: &mut R, buffer: &mut [u8]) -> Part
+// Reads a 2-byte length and that many bytes; how many there were.
+pub fn read_part<R: Read>(input: &mut R, buffer: &mut [u8]) -> Result<usize, Stop>
     ensures within { Within result (length buffer.new) }
     ensures kept { Kept result buffer.old buffer.new }
 {
-    let Number::Is(size) = read_number(input) else {
-        return Part::End;
-    };
+    let size = read_number(input)?;
     if size > buffer.len() {
-        return Part::End;
+        return Err(Stop::End);
     }
-    let got = read_full(input, &mut buffer[..size]);
-    Part::Bytes(got)
+    Ok(read_full(input, &mut buffer[..size]))
 }
 
 // Puts 1000 + i at place i.
@@ -83,17 +93,9 @@ pub fn fill(output: &mut [u16])
     requires { length output.old ≤ 1000 }
     ensures { Filled output.new (length output.old) }
 {
-    let mut i: usize = 0;
-    while i < output.len() {
-        output[i] = (1000 + i) as u16;
-        i += 1;
+    for (i, place) in output.iter_mut().enumerate() {
+        *place = (1000 + i) as u16;
     }
-}
-
-fn wide(x: u8) -> u64
-    ensures { (result ≡ x) × (result < 256) }
-{
-    x as u64
 }
 
 // The Adler-32 sum of the bytes.
@@ -102,11 +104,9 @@ pub fn sum(bytes: &[u8]) -> u64
 {
     let mut low: u64 = 1;
     let mut high: u64 = 0;
-    let mut i: usize = 0;
-    while i < bytes.len() {
-        low = (low + wide(bytes[i])) % 65521;
+    for byte in bytes {
+        low = (low + u64::from(*byte)) % 65521;
         high = (high + low) % 65521;
-        i += 1;
     }
     high * 65536 + low
 }

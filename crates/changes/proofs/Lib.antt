@@ -1,3 +1,1 @@
-pub mod Refusals
-pub mod EventAnswers
-pub mod SetAnswers
+pub mod Changing

@@ -4,46 +4,40 @@
 
 ghost use Rattle.model.specs.Requests.{event as event_request, set_policy, answered};
 ghost use Rattle.model.specs.Calls.{Called};
+ghost use Rattle.refusals.specs.Numbers.{answer_of};
 
-use scheme::Reading;
+use refusals::Refusal;
 
 // Set: u chooses policy p for resource r.
-pub fn set(scheme: &[u8], network: &mut [u8], u: usize, r: usize, p: usize) -> u8
-    ensures { Called scheme.now network.old (answered (set_policy u r p) result) network.new }
+pub fn set(scheme: &[u8], network: &mut [u8], u: usize, r: usize, p: usize) -> Result<(), Refusal>
+    ensures { Called scheme.now network.old (answered (set_policy u r p) (answer_of result)) network.new }
 {
-    let reading = opening::open(scheme, network, u, u);
-    let Reading::Accepted(c) = reading else {
-        return scheme::number(reading);
-    };
-    if !resources::is_resource(c, r) {
-        return 7;
+    let world = opening::open(scheme, network, u, u)?;
+    if !resources::is_resource(world.scheme.counts, r) {
+        return Err(Refusal::Resource);
     }
-    if !tables::offered(tables::mask(scheme, c, r), p) {
-        return 12;
+    if !tables::offered(world.scheme.mask(r), p) {
+        return Err(Refusal::NotOffered);
     }
-    network::write::setting(scheme, c, network, u, r, p as u8);
-    0
+    let place = world.setting_place(u, r);
+    network[place] = p as u8;
+    Ok(())
 }
 
 // Event: v uses primitive a towards u.
-pub fn event(scheme: &[u8], network: &mut [u8], v: usize, u: usize, a: usize) -> u8
-    ensures { Called scheme.now network.old (answered (event_request v u a) result) network.new }
+pub fn event(scheme: &[u8], network: &mut [u8], v: usize, u: usize, a: usize) -> Result<(), Refusal>
+    ensures { Called scheme.now network.old (answered (event_request v u a) (answer_of result)) network.new }
 {
-    let reading = opening::open(scheme, network, v, u);
-    let Reading::Accepted(c) = reading else {
-        return scheme::number(reading);
-    };
-    if a >= c.primitives {
-        return 7;
+    let world = opening::open(scheme, network, v, u)?;
+    if a >= world.scheme.counts.primitives {
+        return Err(Refusal::Resource);
     }
     if v == u {
-        return 8;
+        return Err(Refusal::Oneself);
     }
-    let q = moves::next_state(scheme, c, network, v, u, a);
-    let refusal = checks::judge(scheme, c, network, v, u, 2 + a, q != 255);
-    if refusal != 0 {
-        return refusal;
-    }
-    network::write::state(scheme, c, network, v, u, q);
-    0
+    let next = moves::next_state(&world, v, u, a);
+    let state = checks::judge(&world, v, u, 2 + a, next)?;
+    let place = world.pair_place(v, u);
+    network[place] = state;
+    Ok(())
 }

@@ -2,119 +2,125 @@
 
 #![tactic(auto)]
 
-ghost use Rattle.std.specs.Prelude.{◌≡◌, ◌⊎◌, ◌+◌, ◌<◌};
-ghost use Rattle.model.specs.Answers.{Answers};
+ghost use Rattle.std.specs.Prelude.{◌≡◌, ◌+◌, ◌⊎◌, ◌<◌, true};
+ghost use Rattle.std.specs.Fn.{FnOnceTakesAt, FnOnceReturnsAt};
 ghost use Rattle.model.specs.Decides.{Decides};
 ghost use Rattle.model.specs.Finding.{Finds};
 ghost use Rattle.model.specs.Graph.{Friends};
-ghost use Rattle.network.specs.Ready.{Ready, world_of, graph_of};
+ghost use Rattle.model.specs.SchemeBytes.{n, A, I};
+ghost use Rattle.network.specs.Worlds.{members_in, resources_in, world_in, graph_in};
+ghost use Rattle.prepared.specs.Asking.{world_asked};
 ghost use Rattle.finding.specs.Everyone.{Everyone};
-ghost use Rattle.checks.specs.Judged.{judge_needs};
+ghost use Rattle.checks.specs.Asked.{asking_in};
+ghost use Rattle.checks.specs.Judged.{Judged};
 
-use tables::Summary;
+use network::World;
+use prepared::Accessor;
+use refusals::Refusal;
 
 // Whether v and u are one or friends: then v finds u, and nothing has to be prepared.
-fn near(scheme: &[u8], c: Summary, network: &[u8], v: usize, u: usize) -> bool
-    requires { Ready scheme.now c network.now × (v < c.members) × (u < c.members) }
-    ensures { Decides result ((u ≡ v) ⊎ Friends (graph_of scheme.now network.now) u v) }
+fn near(world: &World<'_>, v: usize, u: usize) -> bool
+    requires { (v < members_in world.now) × (u < members_in world.now) }
+    ensures near { Decides result ((u ≡ v) ⊎ Friends (graph_in world.now) u v) }
+    ensures found { result ≡ true → Finds (world_in world.now) v u }
 {
-    if u == v {
-        return true;
-    }
-    network::read::friends(scheme, c, network, u, v)
+    u == v || world.friends(u, v)
+}
+
+// What is asked of an accessor, which is prepared for it.
+fn ask<R, F: FnOnce(&Accessor<'_>) -> R>(world: &World<'_>, v: usize, asked: F) -> R
+    requires { (v < members_in world.now) × FnOnceTakesAt F.FnOnce asked (asking_in world.now v) }
+    ensures { FnOnceReturnsAt F.FnOnce asked (asking_in world.now v) result }
+{
+    let mut distances = [0; 256];
+    let mut rows = [0; 1024];
+    prepared::prepare(world, v, &mut distances, &mut rows);
+    asked(&Accessor::new(world, v, &distances, &rows))
 }
 
 // Whether v finds u.
-pub fn found(scheme: &[u8], c: Summary, network: &[u8], v: usize, u: usize) -> bool
-    requires { Ready scheme.now c network.now × (v < c.members) × (u < c.members) }
-    ensures { Decides result (Finds (world_of scheme.now network.now) v u) }
+pub fn found(world: &World<'_>, v: usize, u: usize) -> bool
+    requires { (v < members_in world.now) × (u < members_in world.now) }
+    ensures { Decides result (Finds (world_in world.now) v u) }
 {
-    if near(scheme, c, network, v, u) {
-        return true;
-    }
-    let mut distances = distance::no_distances();
-    let mut rows = row_table::no_rows();
-    prepared::prepare(scheme, c, network, v, &mut distances, &mut rows);
-    finding::finds(scheme, c, network, &distances, &rows, v, u)
+    near(world, v, u)
+        || ask(
+            world,
+            v,
+            |accessor|
+                requires { u < n accessor.now.scheme }
+                ensures { Decides result (Finds (world_asked accessor.now) accessor.now.v u) }
+            { finding::finds(accessor, u) },
+        )
 }
 
 // Marks everyone whom v finds.
-pub fn everyone(scheme: &[u8], c: Summary, network: &[u8], v: usize) -> [u16; 256]
-    requires { Ready scheme.now c network.now × (v < c.members) }
-    ensures { Everyone (world_of scheme.now network.now) v result }
+pub fn everyone(world: &World<'_>, v: usize) -> [u16; 256]
+    requires { v < members_in world.now }
+    ensures { Everyone (world_in world.now) v result }
 {
-    let mut distances = distance::no_distances();
-    let mut rows = row_table::no_rows();
-    prepared::prepare(scheme, c, network, v, &mut distances, &mut rows);
-    finding::everyone(scheme, c, network, &distances, &rows, v)
+    ask(world, v, finding::everyone)
 }
 
-// Of members that are one or friends: 10 if nothing is defined; 11 if u's setting for resource r does not admit v; else 0.
-fn judge_near(
-    scheme: &[u8],
-    c: Summary,
-    network: &[u8],
+// What is granted to a member that is u or its friend, and so finds it.
+fn judge_near<T: Copy>(
+    world: &World<'_>,
     v: usize,
     u: usize,
     r: usize,
-    defined: bool,
-) -> u8
-    requires { Ready scheme.now c network.now × (v < c.members) × (u < c.members) × (r < 2 + c.primitives + c.items) × ((u ≡ v) ⊎ Friends (graph_of scheme.now network.now) u v) }
-    ensures { Answers (judge_needs (world_of scheme.now network.now) v u r defined) result }
+    granted: Option<T>,
+) -> Result<T, Refusal>
+    requires { (v < members_in world.now) × (u < members_in world.now) × (r < resources_in world.now) × ((u ≡ v) ⊎ Friends (graph_in world.now) u v) × Finds (world_in world.now) v u }
+    ensures { Judged (world_in world.now) v u r granted result }
 {
-    if !defined {
-        return 10;
+    let granted = granted.ok_or(Refusal::Undefined)?;
+    if !policies::admits_friend(world, u, v, world.setting(u, r)) {
+        return Err(Refusal::NotAdmitted);
     }
-    let p = records::wide(network::read::setting(scheme, c, network, u, r));
-    if !policies::admits_friend(scheme, c, network, u, v, p) {
-        return 11;
-    }
-    0
+    Ok(granted)
 }
 
-// Of members that are not: 9 if v does not find u; then as above.
-fn judge_apart(
-    scheme: &[u8],
-    c: Summary,
-    network: &[u8],
+// What is granted to any other.
+fn judge_apart<T: Copy>(
+    accessor: &Accessor<'_>,
+    u: usize,
+    r: usize,
+    granted: Option<T>,
+) -> Result<T, Refusal>
+    requires { (u < n accessor.now.scheme) × (r < 2 + A accessor.now.scheme + I accessor.now.scheme) }
+    ensures { Judged (world_asked accessor.now) accessor.now.v u r granted result }
+{
+    if !finding::finds(accessor, u) {
+        return Err(Refusal::NotFound);
+    }
+    let granted = granted.ok_or(Refusal::Undefined)?;
+    if !starts::allows(accessor, u, r) {
+        return Err(Refusal::NotAdmitted);
+    }
+    Ok(granted)
+}
+
+// What is granted, if anything is defined: 9 if v does not find u; 10 if nothing is defined; 11 if u's setting for resource r
+// does not admit v.
+pub fn judge<T: Copy>(
+    world: &World<'_>,
     v: usize,
     u: usize,
     r: usize,
-    defined: bool,
-) -> u8
-    requires { Ready scheme.now c network.now × (v < c.members) × (u < c.members) × (r < 2 + c.primitives + c.items) }
-    ensures { Answers (judge_needs (world_of scheme.now network.now) v u r defined) result }
+    granted: Option<T>,
+) -> Result<T, Refusal>
+    requires { (v < members_in world.now) × (u < members_in world.now) × (r < resources_in world.now) }
+    ensures { Judged (world_in world.now) v u r granted result }
 {
-    let mut distances = distance::no_distances();
-    let mut rows = row_table::no_rows();
-    prepared::prepare(scheme, c, network, v, &mut distances, &mut rows);
-    if !finding::finds(scheme, c, network, &distances, &rows, v, u) {
-        return 9;
+    if near(world, v, u) {
+        return judge_near(world, v, u, r, granted);
     }
-    if !defined {
-        return 10;
-    }
-    if !starts::allows(scheme, c, network, &distances, &rows, u, r, v) {
-        return 11;
-    }
-    0
-}
-
-// 9 if v does not find u; 10 if nothing is defined; 11 if u's setting for resource r does not admit v; else 0.
-pub fn judge(
-    scheme: &[u8],
-    c: Summary,
-    network: &[u8],
-    v: usize,
-    u: usize,
-    r: usize,
-    defined: bool,
-) -> u8
-    requires { Ready scheme.now c network.now × (v < c.members) × (u < c.members) × (r < 2 + c.primitives + c.items) }
-    ensures { Answers (judge_needs (world_of scheme.now network.now) v u r defined) result }
-{
-    if near(scheme, c, network, v, u) {
-        return judge_near(scheme, c, network, v, u, r, defined);
-    }
-    judge_apart(scheme, c, network, v, u, r, defined)
+    ask(
+        world,
+        v,
+        |accessor|
+            requires { (u < n accessor.now.scheme) × (r < 2 + A accessor.now.scheme + I accessor.now.scheme) }
+            ensures { Judged (world_asked accessor.now) accessor.now.v u r granted result }
+        { judge_apart(accessor, u, r, granted) },
+    )
 }

@@ -1,7 +1,7 @@
 -- A call of a request, by what a caller learns from the contracts of five functions, whosever they are.
 use Rattle.std.specs.Prelude.{ℕ, ◌≡◌, List, []}
 use contract.Lifetimes.{Lfts}
-use borrow.Fn.World.{ArgsD, ResD}
+use borrow.Fn.World.{ArgsD}
 use Rattle.std.specs.Borrow.{Bor, MutBor}
 use denote.Triple.Clauses.{AtExit, at_exit}
 use Rattle.model.specs.Requests.{Request, event, set_policy, find, list, view}
@@ -9,15 +9,15 @@ use Rattle.changes.specs.contracts.event as event-contract
 use Rattle.requests.specs.contracts.find as find-contract
 use Rattle.requests.specs.contracts.view as view-contract
 
--- the functions by their parameters: a network to change and three numbers; one to read, and two or three
+-- the functions by their parameters and the number answered: a network to change and three numbers; one to read, and two or three
 abbrev pub Changing : Type 1
-Changing = (κs : Lfts 2) → ArgsD event-contract.signature κs → ResD event-contract.signature κs → AtExit event-contract.ended κs → Type 0
+Changing = (κs : Lfts 2) → ArgsD event-contract.signature κs → ℕ → AtExit event-contract.ended κs → Type 0
 
 abbrev pub Finding : Type 1
-Finding = (κs : Lfts 2) → ArgsD find-contract.signature κs → ResD find-contract.signature κs → AtExit find-contract.ended κs → Type 0
+Finding = (κs : Lfts 2) → ArgsD find-contract.signature κs → ℕ → AtExit find-contract.ended κs → Type 0
 
 abbrev pub Viewing : Type 1
-Viewing = (κs : Lfts 2) → ArgsD view-contract.signature κs → ResD view-contract.signature κs → AtExit view-contract.ended κs → Type 0
+Viewing = (κs : Lfts 2) → ArgsD view-contract.signature κs → ℕ → AtExit view-contract.ended κs → Type 0
 
 -- a list, between scheme, network, v, u, the places lent, answer, list written and network after
 abbrev pub Listing : Type 1

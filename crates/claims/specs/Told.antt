@@ -1,7 +1,5 @@
 -- What a caller learns from a contract's plain `ensures`, read in the closed model of the logic.
-use contract.Lifetimes.{Lfts}
-use denote.Triple.Clauses.{Clauses, Ended, AtExit}
-use borrow.Fn.World.{Pr, w₀, ArgsD, ResD}
+use borrow.Fn.World.{Pr, w₀}
 use borrow.Fn.Read.{ReadAt, no_know}
 use borrow.Fn.Claims.{AllOf}
 use base.Logic.{emp}

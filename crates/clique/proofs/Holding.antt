@@ -1,12 +1,11 @@
 -- The mutual friends that a set holds, and cliques.
 use Prim.Native.Nat.{ℕ, zero, suc, ◌+◌, ◌<◌, ◌≤◌}
 use mathlib.Core.Path.{◌≡◌, refl, sym, ap, ◌∙◌}
-use mathlib.Core.Bool.{Bool, true, false, not, ◌&&◌}
+use mathlib.Core.Bool.{Bool, true, false, ◌&&◌}
 use mathlib.Core.List.{List, [], ◌∷◌}
 use mathlib.Core.Logic.{inl, inr, ⊎_elim}
 use native.Mathlib.Decide.{ℕ_discrete, dec_le, dec_lt}
 use native.Mathlib.Omega.{arith}
-use borrow.Author.Tests.{not-true, not-false}
 use lib.ListN.{length}
 use Rattle.model.specs.Graph.{Graph, Friends, Mutual, Among, Clique}
 use Rattle.model.proofs.Cliques.{Other, mutual_friends, friend_of_all_lem, mutual_member, Without, without}
@@ -266,27 +265,21 @@ none_asked = record {
   tells = λ g r i. record { sound = λ e. record { list = []; long = refl; friends = tt; inside = λ y k. absurd k }; complete = λ h. refl };
 }
 
-pub tells_yes : {rows set : List ℕ} {j : ℕ} {t : Bool} → TellsEach rows set 0 j t → not t ≡ false → TellsEach rows set 0 j true
-tells_yes {t = t} a e = rw (not-false t e) at a
-
-pub tells_no : {rows set : List ℕ} {j : ℕ} {t : Bool} → TellsEach rows set 0 j t → not t ≡ true → TellsEach rows set 0 j false
-tells_no {t = t} a e = rw (not-true t e) at a
-
 -- friends whose common friends hold j mutual members and, of up to three, no more
-pub friends_with : (rows common : List ℕ) (u v j : ℕ) → Has (row_of rows u) v → Meet (row_of rows u) (row_of rows v) common
+pub friends_with : {rows row_u row_v common : List ℕ} {u v : ℕ} (j : ℕ) → row_u ≡ row_of rows u → row_v ≡ row_of rows v → Has row_u v → Meet row_u row_v common
     → j ≤ 3
     → TellsEach rows common 0 j true
     → (j < 3 → TellsEach rows common 0 (suc j) false)
     → CliqueSize rows u v (2 + j)
-friends_with rows common u v j f c few x y = record {
+friends_with {rows} {common = common} {u} {v} j eu ev f c few x y = record {
   some = omega arith;
   most = omega arith;
   largest = λ g r a b d.
-      let p = r.each u a in
+      let p = rw (← eu) at (r.each u a) in
       let i : Inside g common = λ m h. row_inside p m (in_both c m h).0 in
-      largest_holds r.few r.undirected a b d p (r.each v b) c j (sym (p.bits v (omega (arith, r.few))) ∙ f) ((x.tells g r i).sound refl)
+      largest_holds r.few r.undirected a b d p (rw (← ev) at (r.each v b)) c j (sym (p.bits v (omega (arith, r.few))) ∙ f) ((x.tells g r i).sound refl)
       (λ l h. never (((y l).tells g r i).complete h) refl);
-  alone = λ g r a e. absurd (never (sym ((r.each u a).bits v (omega (arith, r.few))) ∙ f) (rw (← e) (r.undirected.none_own u)));
+  alone = λ g r a e. absurd (never (sym ((rw (← eu) at (r.each u a)).bits v (omega (arith, r.few))) ∙ f) (rw (← e) (r.undirected.none_own u)));
 }
 
 -- a common friend x, a common friend y of the three, and one more of the four: a clique of five

@@ -1,5 +1,5 @@
 -- The friends of many members at once.
-use Prim.Native.Nat.{ℕ, zero, suc, ◌+◌, ◌-◌, ◌*◌, ◌/◌, ◌%◌, ◌^◌, ◌<◌, ◌≤◌}
+use Prim.Native.Nat.{ℕ, zero, suc, ◌+◌, ◌-◌, ◌*◌, ◌/◌, ◌%◌, ◌^◌, ◌<◌, ◌≤◌, max}
 use mathlib.Core.Path.{◌≡◌, refl, sym, ◌∙◌}
 use mathlib.Core.Bool.{Bool, true, false, ◌||◌, or-true}
 use mathlib.Core.List.{List, [], ◌∷◌}
@@ -90,8 +90,8 @@ module _ {rows : List ℕ} {m word left : ℕ} {found all : List ℕ} (s : Joini
 
 -- ---- a loop over the words of a set
 
-pub friends_of_none : {rows set : List ℕ} {from : ℕ} → FriendsOf rows set from from (0 ∷ 0 ∷ 0 ∷ 0 ∷ [])
-friends_of_none = record {
+pub friends_of_none : {rows set : List ℕ} {from to : ℕ} → to ≤ from → FriendsOf rows set from to (0 ∷ 0 ∷ 0 ∷ 0 ∷ [])
+friends_of_none e = record {
   each = λ x y a b h k. absurd (omega arith);
   only = λ y h. absurd (never h (rw (zeros (y / 64)) (bit_no 0 (y % 64) (digit_of_zero (y % 64)))));
 }
@@ -103,17 +103,20 @@ friends_of_none = record {
     zeros (suc (suc (suc zero))) = refl
     zeros (suc (suc (suc (suc q)))) = refl
 
-pub friends_on : {rows set all more : List ℕ} {from m word : ℕ} → FriendsOf rows set from m all → Rest set m word → RowsJoined rows m (λ q. bit word q ≡ true) all more → FriendsOf rows set from (m / 64 * 64 + 64) more
-friends_on {rows} {set} {all} {more} {from} {m} {word} f r j = record {
+-- the rows are joined of the members in word w, from its place m on
+pub friends_on : {rows set all more : List ℕ} {from w m word : ℕ} → FriendsOf rows set from (w * 64) all → from / 64 ≤ w → m ≡ max from (w * 64) → Rest set m word
+    → RowsJoined rows m (λ q. bit word q ≡ true) all more
+    → FriendsOf rows set from ((w + 1) * 64) more
+friends_on {rows} {set} {all} {more} {from} {w} {m} {word} f later here r j = record {
   each = λ x y a b h k. go x y a b h k (dec_lt x m);
   only = λ y h. ⊎_elim (f.only y) (λ (q, b, k). (m + q, sym (r.bits q (r.ends q b)) ∙ b, k)) (j.only y h);
 }
   where
-    go : (x y : ℕ) → from ≤ x → x < m / 64 * 64 + 64 → Has set x → Has (row_of rows x) y → Dec (x < m) → Has more y
-    go x y a b h k (yes l) = j.kept y (f.each x y a l h k)
+    go : (x y : ℕ) → from ≤ x → x < (w + 1) * 64 → Has set x → Has (row_of rows x) y → Dec (x < m) → Has more y
+    go x y a b h k (yes l) = j.kept y (f.each x y a (omega arith) h k)
     go x y a b h k (no l) =
         let e : m + (x - m) ≡ x = omega arith in
         j.each (x - m) y (r.bits (x - m) (omega arith) ∙ rw e h) (rw e k)
 
-pub friends_all : {rows set all : List ℕ} {from m : ℕ} → FriendsOf rows set from m all → 256 ≤ m → FriendsOf rows set from 256 all
+pub friends_all : {rows set all : List ℕ} {from to : ℕ} → FriendsOf rows set from to all → 256 ≤ to → FriendsOf rows set from 256 all
 friends_all f l = record { each = λ x y a b. f.each x y a (omega arith); only = f.only }

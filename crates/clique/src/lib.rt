@@ -2,49 +2,45 @@
 
 #![tactic(auto)]
 
-ghost use Rattle.std.specs.Prelude.{◌≡◌, true, ℕ, ◌+◌, ◌<◌, length};
+ghost use Rattle.std.specs.Prelude.{◌≡◌, true, ℕ, ◌+◌, ◌<◌};
 ghost use Rattle.model.specs.Bytes.{bit};
 ghost use Rattle.clique.specs.Mutual.{TellsEach, CliqueSize, RowsJoined, FriendsOf};
 
 // The members found, and all friends of the members m + q, for each bit q of a word.
-fn join_rows(rows: &[u64], m: usize, word: u64, found: [u64; 4]) -> [u64; 4]
-    requires { (length rows.now ≡ 1024) × ((q : ℕ) → bit word q ≡ true → m + q < 256) }
+fn join_rows(rows: &[u64; 1024], m: usize, word: u64, found: [u64; 4]) -> [u64; 4]
+    requires { (q : ℕ) → bit word q ≡ true → m + q < 256 }
     ensures { RowsJoined rows.now m (λ q. bit word q ≡ true) found result }
 {
     let mut all = found;
     let mut left = word;
     while left != 0 {
-        let more = sets::join(all, sets::row(rows, m + u64::trailing_zeros(left) as usize));
+        let more = sets::join(all, sets::row(rows, m + left.trailing_zeros() as usize));
         all = more;
-        left = left & (left - 1);
+        left &= left - 1;
     }
     all
 }
 
 // All friends of the members of a set that are not below from.
-fn all_friends(rows: &[u64], set: [u64; 4], from: usize) -> [u64; 4]
-    requires { length rows.now ≡ 1024 }
+fn all_friends(rows: &[u64; 1024], set: [u64; 4], from: usize) -> [u64; 4]
     ensures { FriendsOf rows.now set from 256 result }
 {
-    let mut all = [0u64; 4];
-    let mut m = from;
-    while m < 256 {
+    let mut all = [0; 4];
+    for w in from / 64..4 {
+        let m = from.max(w * 64);
         let more = join_rows(rows, m, sets::rest(set, m), all);
         all = more;
-        m = m / 64 * 64 + 64;
     }
     all
 }
 
 // Whether a set has two friends; the first is not looked for below from. One member is tried by itself, all others at once.
-fn has_pair(rows: &[u64], set: [u64; 4], from: usize) -> bool
-    requires { length rows.now ≡ 1024 }
+fn has_pair(rows: &[u64; 1024], set: [u64; 4], from: usize) -> bool
     ensures { TellsEach rows.now set from 2 result }
 {
-    let m = sets::first_from(set, from);
-    if m >= 256 {
+    let Some(m) = sets::first_from(set, from) else {
         return false;
-    }
+    };
     if sets::not_empty(sets::meet(sets::row(rows, m), set)) {
         return true;
     }
@@ -52,23 +48,22 @@ fn has_pair(rows: &[u64], set: [u64; 4], from: usize) -> bool
 }
 
 // Whether a set has three friends of each other. Those already tried are not looked for again.
-fn has_triangle(rows: &[u64], set: [u64; 4]) -> bool
-    requires { length rows.now ≡ 1024 }
+fn has_triangle(rows: &[u64; 1024], set: [u64; 4]) -> bool
     ensures { TellsEach rows.now set 0 3 result }
 {
-    let mut m = sets::first_from(set, 0);
-    while m < 256 {
-        if has_pair(rows, sets::meet(sets::row(rows, m), set), m + 1) {
+    let mut from = 0;
+    while let Some(m) = sets::first_from(set, from) {
+        from = m + 1;
+        if has_pair(rows, sets::meet(sets::row(rows, m), set), from) {
             return true;
         }
-        m = sets::first_from(set, m + 1);
     }
     false
 }
 
 // The number of members, at most 5, of the largest clique with u and v among them; 1 where they are one.
-pub fn largest(rows: &[u64], u: usize, v: usize) -> usize
-    requires { (length rows.now ≡ 1024) × (u < 256) × (v < 256) }
+pub fn largest(rows: &[u64; 1024], u: usize, v: usize) -> usize
+    requires { (u < 256) × (v < 256) }
     ensures { CliqueSize rows.now u v result }
 {
     let of_u = sets::row(rows, u);

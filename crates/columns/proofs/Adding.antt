@@ -1,14 +1,13 @@
 -- Flags added to columns.
 use Prim.Native.Nat.{ℕ, ◌+◌, ◌*◌, ◌%◌, ◌^◌, ◌≤◌, ◌<◌}
-use mathlib.Core.Path.{◌≡◌, refl, ap, ◌∙◌}
+use mathlib.Core.Path.{◌≡◌, ap, ◌∙◌}
 use mathlib.Core.Bool.{Bool, true, false}
 use mathlib.Core.List.{List}
 use mathlib.Core.Logic.{inl, inr, ⊎_elim}
 use native.Mathlib.Omega.{arith}
 use native.Mathlib.Decide.{dec_lt}
 use lib.Bits.{bit_or, or_zero_r}
-use lib.ListN.{length, get_or, set, length-set}
-use lib.Seq.{get_or-set_same, get_or-set_other}
+use lib.ListN.{get_or, set}
 use Rattle.model.specs.Bytes.{NoBitFrom}
 use Rattle.model.proofs.Sets.{Built, Added, added, left_out, built_more}
 use Rattle.friend_flags.specs.Flags.{flag}
@@ -17,40 +16,6 @@ use Rattle.columns.specs.Columns.{FlagsAdded, Columns}
 -- a flag for each member
 abbrev pub FlagsOf : (ℕ → Bool) → List ℕ → Type 0
 FlagsOf f flags = (m : ℕ) → m < 256 → get_or flags m 0 ≡ flag (f m)
-
-pub added_none : (flags columns : List ℕ) (t from : ℕ) → FlagsAdded flags t from from columns columns
-added_none flags columns t from = record { long = refl; each = λ k h l. absurd (omega arith); kept = λ k o. refl }
-
-pub added_more : {flags columns columns' : List ℕ} {t from m : ℕ} → from ≤ m → m < length columns → FlagsAdded flags t from m columns columns'
-    → FlagsAdded flags t from (m + 1) columns (set columns' m (bit_or (get_or columns' m 0) (get_or flags m 0 * 2 ^ t % 2 ^ 8)))
-added_more {flags} {columns} {columns'} {t} {from} {m} d h g = record {
-  long = simp length-set g.long;
-  each = λ k i l. each k i l (dec_lt k m);
-  kept = λ k o. get_or-set_other columns' _ _ _ 0 (⊎_elim (λ x. (λ e. omega arith)) (λ x. (λ e. omega arith)) o) ∙ g.kept k (⊎_elim (λ x. inl x) (λ x. inr (omega arith)) o);
-}
-  where
-    byte : ℕ
-    byte = bit_or (get_or columns' m 0) (get_or flags m 0 * 2 ^ t % 2 ^ 8)
-
-    here : get_or (set columns' m byte) m 0 ≡ bit_or (get_or columns m 0) (get_or flags m 0 * 2 ^ t % 2 ^ 8)
-    here = get_or-set_same columns' m byte 0 (omega (arith, g.long)) ∙ ap (λ (x : ℕ). bit_or x (get_or flags m 0 * 2 ^ t % 2 ^ 8)) (g.kept m (inr (omega arith)))
-
-    each : (k : ℕ) → from ≤ k → k < m + 1 → Dec (k < m) → get_or (set columns' m byte) k 0 ≡ bit_or (get_or columns k 0) (get_or flags k 0 * 2 ^ t % 2 ^ 8)
-    each k i l (yes x) = get_or-set_other columns' _ _ _ 0 (omega arith) ∙ g.each k i x
-    each k i l (no x) = let e : k ≡ m = omega arith in rw e here
-
-pub added_then : {flags columns columns' columns'' : List ℕ} {t from m end : ℕ} → from ≤ m → m ≤ end → FlagsAdded flags t from m columns columns'
-    → FlagsAdded flags t m end columns' columns''
-    → FlagsAdded flags t from end columns columns''
-added_then {flags} {columns} {columns'} {columns''} {t} {from} {m} {end} a b f g = record {
-  long = g.long ∙ f.long;
-  each = λ k i l. each k i l (dec_lt k m);
-  kept = λ k o. g.kept k (⊎_elim (λ x. inl (omega arith)) (λ x. inr x) o) ∙ f.kept k (⊎_elim (λ x. inl x) (λ x. inr (omega arith)) o);
-}
-  where
-    each : (k : ℕ) → from ≤ k → k < end → Dec (k < m) → get_or columns'' k 0 ≡ bit_or (get_or columns k 0) (get_or flags k 0 * 2 ^ t % 2 ^ 8)
-    each k i l (yes x) = g.kept k (inl x) ∙ f.each k i x
-    each k i l (no x) = g.each k (omega arith) l ∙ ap (λ (y : ℕ). bit_or y (get_or flags k 0 * 2 ^ t % 2 ^ 8)) (f.kept k (inr (omega arith)))
 
 -- nothing is added where no flag is
 pub added_rest : {flags columns columns' : List ℕ} {t from m end : ℕ} → ((k : ℕ) → m ≤ k → get_or flags k 0 ≡ 0) → m ≤ end

@@ -5,7 +5,7 @@ use mathlib.Core.Bool.{Bool, ◌||◌}
 use mathlib.Core.List.{List}
 use native.Mathlib.Decide.{ℕ_discrete}
 use native.Mathlib.Omega.{arith}
-use borrow.Author.Count.{below_more, below_none}
+use borrow.Author.Count.{below_more}
 use lib.Bits.{bit_or}
 use lib.ListN.{length, get_or, set, length-set}
 use lib.Seq.{get_or-set_same, get_or-set_other}
@@ -73,16 +73,6 @@ module _ (rows : List ℕ) (m from byte : ℕ) (inside : m * 4 + 4 ≤ length ro
     where
       other : (j : ℕ) → (j ≡ at → ⊥) → get_or rows' j 0 ≡ get_or rows j 0
       other j d = get_or-set_other rows _ _ _ 0 (omega arith)
-
-pub put_none : (columns rows : List ℕ) (from : ℕ) → ColumnsPut columns from 0 rows columns rows
-put_none columns rows from = record {
-  columns_long = refl;
-  rows_long = refl;
-  each = below_none _;
-  kept = λ m h. refl;
-  empty = below_none _;
-  rest = λ m h. refl;
-}
 
 pub put_more : {columns₀ rows₀ columns rows : List ℕ} {from m byte : ℕ} → length columns₀ ≡ 256 → length rows₀ ≡ 1024 → from < 256 → from % 8 ≡ 0 → m < 256
     → byte ≡ get_or columns m 0

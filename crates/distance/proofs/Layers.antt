@@ -7,13 +7,14 @@ use mathlib.Core.Logic.{◌⊎◌, ⊎_elim}
 use native.Mathlib.Decide.{dec_le, dec_lt}
 use native.Mathlib.Nat.{eq-or-lt_of_le}
 use native.Mathlib.Omega.{arith}
-use lib.ListN.{length, get_or, set, get_or-eq_default}
+use lib.ListN.{length, get_or, set, replicate}
+use Rattle.std.proofs.lemmas.List.{get_or-replicate, get_or_past}
 use Rattle.model.specs.Graph.{Graph, Friends, Onward, Within}
 use Rattle.model.proofs.Deciding.{Inside}
 use Rattle.distance_mark.specs.Mark.{distance_at, IsDistance}
 use Rattle.next_friend.proofs.Spreading.{after}
 use Rattle.distance.specs.Distances.{Distances}
-use Rattle.distance.specs.Marks.{Cleared, Layered}
+use Rattle.distance.specs.Marks.{Layered}
 
 -- the marks are right up to d, and the friends of those with a lesser mark have one
 pub record Layers (g : Graph) (v d : ℕ) (s : List ℕ) : Type 0 where
@@ -24,22 +25,25 @@ pub record Layers (g : Graph) (v d : ℕ) (s : List ℕ) : Type 0 where
   pub closed : (j k : ℕ) → j < g.members → k < g.members → 0 < get_or s j 0 → get_or s j 0 < d → Friends g k j
       → (0 < get_or s k 0) × (get_or s k 0 ≤ get_or s j 0 + 1)
 
+-- nobody has a mark
+abbrev pub cleared : List ℕ
+cleared = replicate 256 0
+
 module _ {g : Graph} {v : ℕ} where
-  pub layers_begin : {s : List ℕ} → Cleared s → v < g.members → g.members ≤ 256 → Layers g v 1 (set s v 1)
-  layers_begin {s} z lv small = record {
-    top = λ k l. ⊎_elim (λ q. omega arith) (λ q. omega (arith, z.zeros k (omega arith))) (at k);
-    sound = λ k e l h. ⊎_elim (λ q. ([], omega arith, q.0)) (λ q. absurd (omega (arith, z.zeros k (omega arith)))) (at k);
+  pub layers_begin : v < g.members → g.members ≤ 256 → Layers g v 1 (set cleared v 1)
+  layers_begin lv small = record {
+    top = λ k l. ⊎_elim (λ q. omega arith) (λ q. omega (arith, zero k)) (at k);
+    sound = λ k e l h. ⊎_elim (λ q. ([], omega arith, q.0)) (λ q. absurd (omega (arith, zero k))) (at k);
     begun = ⊎_elim (λ q. q.1) (λ q. absurd (q.0 refl)) (at v);
-    outside = λ k l. ⊎_elim (λ q. absurd (omega arith)) (λ q. q.1 ∙ zero k (dec_lt k 256)) (at k);
+    outside = λ k l. ⊎_elim (λ q. absurd (omega arith)) (λ q. q.1 ∙ zero k) (at k);
     closed = λ j k a b h o f. absurd (omega arith);
   }
     where
-      at : (k : ℕ) → ((k ≡ v) × (get_or (set s v 1) k 0 ≡ 1)) ⊎ ((k ≡ v → ⊥) × (get_or (set s v 1) k 0 ≡ get_or s k 0))
-      at k = after s v 1 k (omega (arith, z.size))
+      at : (k : ℕ) → ((k ≡ v) × (get_or (set cleared v 1) k 0 ≡ 1)) ⊎ ((k ≡ v → ⊥) × (get_or (set cleared v 1) k 0 ≡ get_or cleared k 0))
+      at k = after cleared v 1 k (omega arith)
 
-      zero : (k : ℕ) → Dec (k < 256) → get_or s k 0 ≡ 0
-      zero k (yes l) = z.zeros k l
-      zero k (no l) = get_or-eq_default s 0 (omega (arith, z.size))
+      zero : (k : ℕ) → get_or cleared k 0 ≡ 0
+      zero k = elim (dec_lt k 256) [ yes l ↦ get_or-replicate 256 k 0 0 l | no l ↦ get_or_past cleared k 0 (omega arith) ]
 
   -- where all with a mark up to the limit are below the layer, the marks are the distances
   module _ {d : ℕ} {s : List ℕ} (limit : ℕ) (x : Layers g v d s) (inside : Inside g)

@@ -1,12 +1,12 @@
 -- What the parts of `fill` do to the marks: a member's mark is one more than its distance, or 0 while it has none.
-use Rattle.std.specs.Prelude.{ℕ, ◌+◌, ◌<◌, ◌≡◌, Bool, false, List, length, get_or}
+use Rattle.std.specs.Prelude.{ℕ, ◌+◌, ◌<◌, ◌≡◌, Bool, false, List, Option, None, Some, get_or}
 use Rattle.model.specs.Graph.{Graph}
-use Rattle.next_friend.specs.Spread.{Spread}
+use Rattle.next_friend.specs.Spread.{Marked, Spread}
 
--- every place is 0
-pub record Cleared (marks : List ℕ) : Type 0 where
-  pub size : length marks ≡ 256
-  pub zeros : (k : ℕ) → k < 256 → get_or marks k 0 ≡ 0
+-- the first of n members without a mark; none where all have one
+abbrev pub FirstUnmarked : ℕ → List ℕ → Option ℕ → Type 0
+FirstUnmarked n marks (Some k) = (k < n) × Marked n marks k
+FirstUnmarked n marks None = Marked n marks n
 
 -- the friends of those below i with the mark were tried; where some is false, there was none with it, or everybody has a mark
 pub record Layered (g : Graph) (mark : ℕ) (old : List ℕ) (i : ℕ) (new : List ℕ) (some : Bool) : Type 0 where

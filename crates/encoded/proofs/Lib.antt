@@ -1,4 +1,5 @@
 mod Made
+mod Numbers
 pub mod Complete
 mod PartWritten
 mod Decoding

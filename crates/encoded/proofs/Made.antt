@@ -1,18 +1,15 @@
 -- What the call of a request leaves is one of the five calls.
-use Prim.Native.Nat.{ℕ, zero, suc}
-use mathlib.Core.Path.{◌≡◌, refl, ◌∙◌}
-use mathlib.Core.List.{List, []}
-use native.Mathlib.Omega.{arith}
-use lib.ListN.{length, take}
+use Rattle.std.proofs.Common.{ℕ, zero, suc, ◌≡◌, refl, ◌∙◌, List, [], Result, Ok, Err, length, take}
 use Rattle.std.specs.Borrow.{Bor, MutBor}
-use Rattle.model.specs.Requests.{list, granted}
+use Rattle.model.specs.Requests.{granted}
 use Rattle.model.specs.Calls.{Left}
-use Rattle.model.proofs.Leaving.{none_granted, refused_left}
+use Rattle.model.proofs.Leaving.{none_granted}
+use Rattle.refusals.specs.Numbers.{answer_of, count_of}
+use Rattle.refusals.specs.declared.Refusal.{Refusal}
 use Rattle.kinds.specs.Kinds.{request_of}
 use Rattle.kinds.specs.declared.Request.{Request}
 use Rattle.kinds.specs.declared.Request.TheVariants.{Event, Set, Find, List as ListOf, View}
-use Rattle.requests.specs.declared.Listed.TheVariants.{Friends, Refused}
-use Rattle.claims.specs.Cite.{CallOf}
+use Rattle.claims.specs.Cite.{CallOf, Granted}
 
 -- some reference to these bytes
 ref : List ℕ → Bor (List ℕ)
@@ -25,32 +22,33 @@ either : {A : Type 0} (k : ℕ) (x : A) → granted k x x ≡ x
 either zero x = refl
 either (suc k) x = refl
 
-module _ (b net out : List ℕ) where
-  made_list : (v u answer count : ℕ) (left after : List ℕ) → after ≡ net → Left b net (list v u (length out)) out answer count left net
-      → CallOf b net (list v u (length out)) answer (take count left) after
-  unfolding ref ref_mut
-  made_list v u zero count left after e l = (([], ([], ([], tt))), ref b, ref net, ref_mut out, Friends count, left, refl, refl, refl, refl, refl, (e, record { left = l; numbered = tt }))
-  made_list v u (suc k) count left after e l =
-      let (none, same) = refused_left b net (list v u (length out)) out (omega arith) l in
-      (([], ([], ([], tt))), ref b, ref net, ref_mut out, Refused (suc k), left, refl, refl, refl, refl, rw none refl, (e, record { left = rw none at l; numbered = omega arith }))
+-- the result of a call that writes no list
+uncounted : (told : Result ℕ Refusal) → (plain : Granted) × (answer_of told ≡ answer_of plain)
+uncounted (Ok count) = (Ok tt, refl)
+uncounted (Err refusal) = (Err refusal, refl)
 
-  pub made : (asked : Request) (answer count : ℕ) (left after : List ℕ) → Left b net (request_of asked (length out)) out answer count left after
-      → CallOf b net (request_of asked (length out)) answer (take count left) after
+module _ (b net out : List ℕ) where
+  pub made : (asked : Request) (told : Result ℕ Refusal) (left after : List ℕ) → Left b net (request_of asked (length out)) out (answer_of told) (count_of told) left after
+      → CallOf b net (request_of asked (length out)) (answer_of told) (take (count_of told) left) after
   unfolding ref ref_mut
-  made (Event v u a) answer count left after l =
-      let w : take count left ≡ [] = l.called.wrote ∙ none_granted answer (λ _. refl) in
-      (([], ([], tt)), ref b, ref_mut net, refl, refl, (w, rw w at l.called))
-  made (Set u r p) answer count left after l =
-      let w : take count left ≡ [] = l.called.wrote ∙ none_granted answer (λ _. refl) in
-      (([], ([], tt)), ref b, ref_mut net, refl, refl, (w, rw w at l.called))
-  made (Find v u) answer count left after l =
-      let w : take count left ≡ [] = l.called.wrote ∙ none_granted answer (λ _. refl) in
-      let e : after ≡ net = l.called.bytes ∙ either answer net in
-      (([], ([], tt)), ref b, ref net, refl, refl, (w, (e, rw (w, e) at l.called)))
-  made (ListOf v u) answer count left after l =
-      let e : after ≡ net = l.called.bytes ∙ either answer net in
-      made_list v u answer count left after e (rw e at l)
-  made (View v u o) answer count left after l =
-      let w : take count left ≡ [] = l.called.wrote ∙ none_granted answer (λ _. refl) in
-      let e : after ≡ net = l.called.bytes ∙ either answer net in
-      (([], ([], tt)), ref b, ref net, refl, refl, (w, (e, rw (w, e) at l.called)))
+  made (Event v u a) told left after l =
+      let w : take (count_of told) left ≡ [] = l.called.wrote ∙ none_granted (answer_of told) (λ _. refl) in
+      let (plain, e) = uncounted told in
+      (([], ([], tt)), ref b, ref_mut net, refl, refl, (w, (plain, e, rw (w, e) at l.called)))
+  made (Set u r p) told left after l =
+      let w : take (count_of told) left ≡ [] = l.called.wrote ∙ none_granted (answer_of told) (λ _. refl) in
+      let (plain, e) = uncounted told in
+      (([], ([], tt)), ref b, ref_mut net, refl, refl, (w, (plain, e, rw (w, e) at l.called)))
+  made (Find v u) told left after l =
+      let w : take (count_of told) left ≡ [] = l.called.wrote ∙ none_granted (answer_of told) (λ _. refl) in
+      let same : after ≡ net = l.called.bytes ∙ either (answer_of told) net in
+      let (plain, e) = uncounted told in
+      (([], ([], tt)), ref b, ref net, refl, refl, (w, (same, (plain, e, rw (w, same, e) at l.called))))
+  made (ListOf v u) told left after l =
+      let same : after ≡ net = l.called.bytes ∙ either (answer_of told) net in
+      (([], ([], ([], tt))), ref b, ref net, ref_mut out, told, left, refl, refl, refl, refl, refl, (same, rw same at l))
+  made (View v u o) told left after l =
+      let w : take (count_of told) left ≡ [] = l.called.wrote ∙ none_granted (answer_of told) (λ _. refl) in
+      let same : after ≡ net = l.called.bytes ∙ either (answer_of told) net in
+      let (plain, e) = uncounted told in
+      (([], ([], tt)), ref b, ref net, refl, refl, (w, (same, (plain, e, rw (w, same, e) at l.called))))

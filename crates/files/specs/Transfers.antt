@@ -1,22 +1,11 @@
 -- What a read or a write did.
-use Rattle.std.specs.Prelude.{ℕ, ◌≤◌, ◌≡◌, List, length, take, Option}
+use Rattle.std.specs.Prelude.{ℕ, ◌≤◌, ◌≡◌, List, length, take, Option, Result, Ok, Err}
 use Rattle.std.specs.Io.KnownBytes.{Appends}
-use Rattle.files.specs.declared.Transfer.{Transfer}
-use Rattle.files.specs.declared.Transfer.TheVariants.{Moved, Ended, Interrupted, Failed}
-
--- it moved at most so many bytes, and one at the least where it says that it moved some
-abbrev pub Within : Transfer → ℕ → Type 0
-Within (Moved count) most = (1 ≤ count) × (count ≤ most)
-Within Ended most = Unit {0}
-Within Interrupted most = Unit {0}
-Within (Failed error) most = Unit {0}
 
 -- how many bytes it moved
-abbrev pub moved : Transfer → ℕ
-moved (Moved count) = count
-moved Ended = 0
-moved Interrupted = 0
-moved (Failed error) = 0
+abbrev pub moved : {E : Type 0} → Result ℕ E → ℕ
+moved (Ok count) = count
+moved (Err error) = 0
 
 -- a list has so many bytes, and its first so many are that many: the second follows from the first and spares a caller a proof
 abbrev pub IsPrefixLen : ℕ → List ℕ → Type 0

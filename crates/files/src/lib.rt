@@ -2,50 +2,27 @@
 
 #![tactic(auto)]
 
-ghost use Rattle.std.specs.Prelude.{◌≡◌, ◌-◌, ◌<◌, ◌≤◌, length, take, drop, MatchResult, OnOk};
+ghost use Rattle.std.specs.Prelude.{◌≡◌, ◌-◌, ◌<◌, ◌≤◌, length, take, drop, MatchResult, OnOk, IfOk};
 ghost use Rattle.std.specs.Io.KnownBytes.{Appends, Consumes};
-ghost use Rattle.files.specs.Transfers.{Within, moved, IsPrefixLen, Given};
+ghost use Rattle.files.specs.Transfers.{moved, IsPrefixLen, Given};
 
 use std::fs::File;
 use std::io::{Error, ErrorKind, Read, Write};
 use std::rt::Files;
 use std::{io, str};
 
-// What a read or a write did: it moved so many bytes, one at the least; it moved none; it was interrupted first; or it failed.
-#[derive(Drop)]
-pub enum Transfer {
-    Moved(usize),
-    Ended,
-    Interrupted,
-    Failed(Error),
-}
-
-// What a read or a write over these bytes did, by what it answered.
-fn told(got: io::Result<usize>, bytes: &[u8]) -> Transfer
-    ensures within { Within result (length bytes.now) }
+// What a read or a write over these bytes answered: it moved so many of them, and where it moved none, it ended.
+fn told(got: io::Result<usize>, bytes: &[u8]) -> io::Result<usize>
+    ensures within { IfOk result (λ n. n ≤ length bytes.now) }
     ensures tells { MatchResult got (λ n. n ≤ length bytes.now → moved result ≡ n) (λ _. moved result ≡ 0) }
 {
-    match got {
-        Ok(count) => {
-            let moved = count.min(bytes.len());
-            if moved == 0 {
-                return Transfer::Ended;
-            }
-            Transfer::Moved(moved)
-        }
-        Err(error) => {
-            if error.kind() == ErrorKind::Interrupted {
-                return Transfer::Interrupted;
-            }
-            Transfer::Failed(error)
-        }
-    }
+    Ok(got?.min(bytes.len()))
 }
 
 // One read to the buffer from a place on.
-fn read_part<R: Read>(file: &mut R, buffer: &mut [u8], from: usize) -> Transfer
+fn read_part<R: Read>(file: &mut R, buffer: &mut [u8], from: usize) -> io::Result<usize>
     requires { from ≤ length buffer.old }
-    ensures within { Within result (length buffer.old - from) }
+    ensures within { IfOk result (λ n. n ≤ length buffer.old - from) }
     ensures front { take from buffer.new ≡ take from buffer.old }
     ensures bytes { Consumes (R.remaining file.old) (R.remaining file.new) (take (moved result) (drop from buffer.new)) }
 {
@@ -67,10 +44,10 @@ fn read_all<R: Read>(file: &mut R, buffer: &mut [u8]) -> usize
         }
         let part = read_part(file, buffer, done);
         match part {
-            Transfer::Moved(count) => done += count,
-            Transfer::Ended => return done,
-            Transfer::Interrupted => interrupted += 1,
-            Transfer::Failed(_) => return 0,
+            Ok(0) => return done,
+            Ok(count) => done += count,
+            Err(error) if error.kind() == ErrorKind::Interrupted => interrupted += 1,
+            Err(_) => return 0,
         }
     }
     0
@@ -91,9 +68,9 @@ pub fn read<R: Files>(rt: &R, path: &[u8], buffer: &mut [u8]) -> usize
 }
 
 // One write of the bytes from a place on.
-fn write_part<W: Write>(file: &mut W, bytes: &[u8], from: usize) -> Transfer
+fn write_part<W: Write>(file: &mut W, bytes: &[u8], from: usize) -> io::Result<usize>
     requires { from ≤ length bytes.now }
-    ensures within { Within result (length bytes.now - from) }
+    ensures within { IfOk result (λ n. n ≤ length bytes.now - from) }
     ensures bytes { Appends (W.contents file.old) (W.contents file.new) (take (moved result) (drop from bytes.now)) }
 {
     let rest = &bytes[from..];
@@ -114,10 +91,10 @@ pub fn write<W: Write>(file: &mut W, bytes: &[u8]) -> io::Result<()>
         }
         let part = write_part(file, bytes, done);
         match part {
-            Transfer::Moved(count) => done += count,
-            Transfer::Ended => return Err(Error::from(ErrorKind::WriteZero)),
-            Transfer::Interrupted => interrupted += 1,
-            Transfer::Failed(error) => return Err(error),
+            Ok(0) => return Err(Error::from(ErrorKind::WriteZero)),
+            Ok(count) => done += count,
+            Err(error) if error.kind() == ErrorKind::Interrupted => interrupted += 1,
+            Err(error) => return Err(error),
         }
     }
     Err(Error::from(ErrorKind::Interrupted))

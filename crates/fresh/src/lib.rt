@@ -2,69 +2,50 @@
 
 #![tactic(auto)]
 
-ghost use Rattle.std.specs.Prelude.{◌+◌, ◌*◌, ◌≤◌, length};
-ghost use Rattle.model.specs.SchemeBytes.{scheme_of};
+ghost use Rattle.std.specs.Prelude.{◌≡◌, ◌+◌, ◌*◌, ◌≤◌, length};
 ghost use Rattle.model.specs.Calls.{Freshened};
-ghost use Rattle.tables.specs.Read.{ReadAs};
-ghost use Rattle.fresh.specs.Fill.{ZerosBelow, MemberFilled, AllFilled};
+ghost use Rattle.refusals.specs.Numbers.{answer_of};
+ghost use Rattle.tables.specs.Schemes.{scheme_in};
+ghost use Rattle.fresh.specs.Fill.{MemberFresh, AllFilled};
 
-use scheme::Reading;
-use tables::Summary;
+use refusals::Refusal;
+use tables::Scheme;
 
-// Sets the bytes below a place to 0.
-fn clear(network: &mut [u8], to: usize)
-    requires { to ≤ length network.old }
-    ensures { ZerosBelow network.old to network.new }
+// Writes one member's fresh settings.
+fn fill_member(scheme: &Scheme<'_>, settings: &mut [u8])
+    requires { length settings.old ≡ 2 + scheme.now.counts.primitives + scheme.now.counts.items }
+    ensures { MemberFresh (scheme_in scheme.now) settings.new × (length settings.new ≡ 2 + scheme.now.counts.primitives + scheme.now.counts.items) }
 {
-    let mut i: usize = 0;
-    while i < to {
-        network[i] = 0;
-        i += 1;
-    }
-}
-
-// Writes one member's fresh settings from a place on.
-fn fill_member(scheme: &[u8], c: Summary, network: &mut [u8], at: usize)
-    requires { ReadAs scheme.now c × (at + (2 + c.primitives + c.items) ≤ length network.old) }
-    ensures { MemberFilled (scheme_of scheme.now) network.old at (2 + c.primitives + c.items) network.new }
-{
-    let resources = tables::resources(c);
-    let mut r: usize = 0;
-    while r < resources {
-        let mask = tables::mask(scheme, c, r);
-        network[at + r] = tables::lowest(mask) as u8;
-        r += 1;
+    for (r, setting) in settings.iter_mut().enumerate() {
+        *setting = tables::lowest(scheme.mask(r)) as u8;
     }
 }
 
 // Writes every member's fresh settings from a place on.
-fn fill(scheme: &[u8], c: Summary, network: &mut [u8], from: usize)
-    requires { ReadAs scheme.now c × (from + c.members * (2 + c.primitives + c.items) ≤ length network.old) }
-    ensures { AllFilled (scheme_of scheme.now) network.old from c.members (2 + c.primitives + c.items) network.new }
+fn fill(scheme: &Scheme<'_>, network: &mut [u8], from: usize)
+    requires { from + scheme.now.counts.members * (2 + scheme.now.counts.primitives + scheme.now.counts.items) ≤ length network.old }
+    ensures { AllFilled (scheme_in scheme.now) network.old from scheme.now.counts.members (2 + scheme.now.counts.primitives + scheme.now.counts.items) network.new }
 {
-    let resources = tables::resources(c);
-    let mut at = from;
-    let mut m: usize = 0;
-    while m < c.members {
-        fill_member(scheme, c, network, at);
-        at += resources;
-        m += 1;
+    let resources = scheme.counts.resources();
+    let mut settings = [0u8; 26];
+    let settings = &mut settings[..resources];
+    fill_member(scheme, settings);
+    for m in 0..scheme.counts.members {
+        let at = from + m * resources;
+        network[at..at + resources].copy_from_slice(settings);
     }
 }
 
 // Makes a lent network fresh. Its old bytes are not read.
-pub fn fresh(scheme: &[u8], network: &mut [u8]) -> u8
-    ensures { Freshened scheme.now network.old result network.new }
+pub fn fresh(scheme: &[u8], network: &mut [u8]) -> Result<(), Refusal>
+    ensures { Freshened scheme.now network.old (answer_of result) network.new }
 {
-    let reading = scheme::check(scheme);
-    let Reading::Accepted(counts) = reading else {
-        return scheme::number(reading);
-    };
-    let pairs = network::read::pairs(counts.members);
-    if network.len() != network::read::size(scheme, counts) {
-        return 5;
+    let scheme = scheme::check(scheme)?;
+    if network.len() != network::size(&scheme) {
+        return Err(Refusal::Network);
     }
-    clear(network, pairs);
-    fill(scheme, counts, network, pairs);
-    0
+    let pairs = network::pairs(scheme.counts.members);
+    network[..pairs].fill(0);
+    fill(&scheme, network, pairs);
+    Ok(())
 }

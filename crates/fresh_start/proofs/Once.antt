@@ -15,8 +15,10 @@ use Rattle.model.proofs.Texts.{step_once}
 use Rattle.lines.proofs.Putting.{put_once}
 use Rattle.fresh_start.specs.Started.{Started}
 use Rattle.fresh_start.specs.Stands.{state_of, OnlyNetwork, Stepped}
-use Rattle.fresh_start.specs.declared.Start.{Start}
-use Rattle.fresh_start.specs.declared.Start.TheVariants.{Fresh as FreshOf, Refused}
+use Rattle.std.specs.Prelude.{Result, Ok, Err}
+use Rattle.refusals.specs.Numbers.{number}
+use Rattle.refusals.specs.declared.Refusal.{Refusal}
+use Rattle.refusals.proofs.Apart.{number_apart, number_above}
 use Rattle.fresh_start.specs.declared.Stand.{Stand}
 use Rattle.fresh_start.specs.declared.Stand.TheVariants.{Start as AtStart, At, Over}
 use Rattle.fresh_start.specs.declared.Filled.{Filled}
@@ -29,15 +31,16 @@ front_once {net} {m} {n} {c} {d} e f g =
     let same : c ≡ d = i ∙ sym j in
     (same, x ∙ ap (λ (k : ℕ). take d n ++ drop k net) same ∙ sym y)
 
-pub started_once : (b log net : List ℕ) (s t : Start) (m n : List ℕ) → Started b log net s m → Started b log net t n → (s ≡ t) × (m ≡ n)
-started_once b log net (FreshOf c) (FreshOf d) m n (_, f, o) (_, g, p) =
+pub started_once : (b log net : List ℕ) (s t : Result ℕ Refusal) (m n : List ℕ) → Started b log net s m → Started b log net t n → (s ≡ t) × (m ≡ n)
+started_once b log net (Ok c) (Ok d) m n (_, f, o) (_, g, p) =
     let (e, same) = front_once (laid_once (scheme_of b) (fresh (scheme_of b)) (take c m) (take d n) f g) o p in
-    (ap FreshOf e, same)
-started_once b log net (FreshOf c) (Refused k) m n (a, _, _) (r, above, _) =
-    let z : 0 ≡ k = answers_unique (start_needs b log) 0 k a r in absurd (omega arith)
-started_once b log net (Refused k) (FreshOf d) m n (r, above, _) (a, _, _) =
-    let z : 0 ≡ k = answers_unique (start_needs b log) 0 k a r in absurd (omega arith)
-started_once b log net (Refused j) (Refused k) m n (a, _, e) (r, _, f) = (ap Refused (answers_unique (start_needs b log) j k a r), e ∙ sym f)
+    (ap Ok e, same)
+started_once b log net (Ok c) (Err y) m n (a, _, _) (r, _) =
+    let z : 0 ≡ number y = answers_unique (start_needs b log) 0 (number y) a r in absurd (omega (arith, number_above y))
+started_once b log net (Err x) (Ok d) m n (r, _) (a, _, _) =
+    let z : 0 ≡ number x = answers_unique (start_needs b log) 0 (number x) a r in absurd (omega (arith, number_above x))
+started_once b log net (Err x) (Err y) m n (a, e) (r, f) =
+    (ap Err (number_apart x y (answers_unique (start_needs b log) (number x) (number y) a r)), e ∙ sym f)
 
 running_is : {i j p q : ℕ} {m n : List ℕ} → running i p m ≡ running j q n → (i ≡ j) × (p ≡ q) × (m ≡ n)
 running_is e = (cc, cc, cc)

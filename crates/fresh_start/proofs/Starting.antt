@@ -1,8 +1,8 @@
 -- How a run starts.
-use Prim.Native.Nat.{ℕ, ◌+◌, ◌*◌, ◌≤◌, ◌<◌}
+use Prim.Native.Nat.{ℕ, ◌+◌, ◌*◌, ◌≤◌}
 use mathlib.Core.Path.{◌≡◌, refl, ◌∙◌}
 use mathlib.Core.List.{List, [], ◌∷◌, ◌++◌}
-use mathlib.Core.Logic.{inl, inr}
+use mathlib.Core.Logic.{inr}
 use native.Mathlib.Nat.{mul-le-mul}
 use native.Mathlib.Omega.{arith}
 use lib.ListN.{length, drop, length-append}
@@ -12,13 +12,10 @@ use Rattle.model.specs.SchemeBytes.{n, A, I, CountsFit, scheme_of, scheme_needs,
 use Rattle.model.specs.Network.{pairs, size}
 use Rattle.model.specs.Calls.{Fresh, fresh_needs, Freshened}
 use Rattle.model.specs.Text.{start_needs}
-use Rattle.model.proofs.Answering.{answers_unique, granted_met, behind, ahead}
+use Rattle.model.proofs.Answering.{answers_unique, granted_met, behind}
 use Rattle.model.proofs.Places.{pairs_mono}
-use Rattle.scheme.specs.Checked.{Checked, number_of}
-use Rattle.scheme.specs.declared.Reading.{Reading}
-use Rattle.scheme.specs.declared.Reading.TheVariants.{Refused as NotRead}
+use Rattle.std.specs.Prelude.{Ok}
 use Rattle.fresh_start.specs.Started.{Started}
-use Rattle.fresh_start.specs.declared.Start.TheVariants.{Fresh as FreshOf, Refused}
 
 -- the largest network: 256 members, 26 resources
 pub largest : (b : List ℕ) → Accepted b → size (scheme_of b) ≤ 39296
@@ -38,20 +35,9 @@ module _ (b log : List ℕ) where
   unfolding later
   past_scheme {k} a p = behind (scheme_needs b) ((15, length log ≤ 16384) ∷ []) k (granted_met (scheme_needs b) (omega arith) a) p
 
-  pub not_read : {x : Reading} {k r : ℕ} (net : List ℕ) → x ≡ NotRead k → Checked b x → r ≡ number_of x → Started b log net (Refused r) net
-  unfolding later
-  not_read {x} {k} {r} net e h m =
-      let c : Checked b (NotRead k) = rw e at h in
-      let q : r ≡ k = rw e at m in
-      rw q (ahead (scheme_needs b) later k c.1 c.0, c.1, refl)
-
-  pub log_too_long : (net : List ℕ) → Accepted b → 16384 < length log → Started b log net (Refused 15) net
-  unfolding later
-  log_too_long net a l = (past_scheme a (inl ((λ h. omega arith), refl)), omega arith, refl)
-
   pub made_fresh : {part after : List ℕ} {count k : ℕ} (net : List ℕ) → Accepted b → length log ≤ 16384 → count ≡ size (scheme_of b) → length part ≡ count
       → Freshened b part k after → length after ≡ count
-      → Started b log net (FreshOf count) (after ++ drop count net)
+      → Started b log net (Ok count) (after ++ drop count net)
   unfolding later
   made_fresh {part} {after} {count} {k} net a l e p f m =
       let granted : Answers (fresh_needs b part) 0 = behind (scheme_needs b) ((5, length part ≡ size (scheme_of b)) ∷ []) 0 (granted_met (scheme_needs b) (omega arith) a) (inr (p ∙ e, refl)) in

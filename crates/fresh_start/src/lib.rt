@@ -6,11 +6,11 @@ ghost use Rattle.std.specs.Prelude.{◌+◌, ◌≤◌, length};
 ghost use Rattle.fresh_start.specs.Started.{Started};
 ghost use Rattle.fresh_start.specs.Stands.{Stepped};
 
-use scheme::Reading;
+use refusals::Refusal;
 
 // Where the program stands: before the scheme check; at the place of a record, at its position, with a network of so many bytes; or
 // done.
-#[derive(Clone, Copy)]
+#[derive(Clone, Copy, Debug, PartialEq, Eq)]
 pub enum Stand {
     Start,
     At(usize, u16, usize),
@@ -18,34 +18,24 @@ pub enum Stand {
 }
 
 // Where the program stands, and how much of the buffer is used.
-#[derive(Clone, Copy)]
+#[derive(Clone, Copy, Debug, PartialEq, Eq)]
 pub struct Filled {
     pub stand: Stand,
     pub used: usize,
 }
 
-// How a run starts: on a fresh network of so many bytes, or not, with the number that is printed.
-#[derive(Clone, Copy)]
-pub enum Start {
-    Fresh(usize),
-    Refused(u8),
-}
-
-// The scheme check, 15, and a fresh network at the front of the lent bytes.
-fn begin(scheme: &[u8], log: &[u8], network: &mut [u8]) -> Start
+// The scheme check, 15, and a fresh network at the front of the lent bytes; how many bytes it has.
+fn begin(scheme: &[u8], log: &[u8], network: &mut [u8]) -> Result<usize, Refusal>
     requires { 39296 ≤ length network.old }
     ensures { Started scheme.now log.now network.old result network.new }
 {
-    let reading = scheme::check(scheme);
-    let Reading::Accepted(c) = reading else {
-        return Start::Refused(scheme::number(reading));
-    };
+    let read = scheme::check(scheme)?;
     if log.len() > 16384 {
-        return Start::Refused(15);
+        return Err(Refusal::LogLength);
     }
-    let size = network::read::size(scheme, c);
-    fresh::fresh(scheme, &mut network[..size]);
-    Start::Fresh(size)
+    let size = network::size(&read);
+    let _ = fresh::fresh(scheme, &mut network[..size]);
+    Ok(size)
 }
 
 // The first step: a fresh network, or the line of the refusal.
@@ -59,15 +49,14 @@ pub fn first(
     requires { (39296 ≤ length network.old) × (used + 1548 ≤ length buffer.old) }
     ensures { Stepped scheme.now log.now network.old buffer.old used Stand.Start result network.new buffer.new }
 {
-    let start = begin(scheme, log, network);
-    match start {
-        Start::Fresh(size) => Filled {
+    match begin(scheme, log, network) {
+        Ok(size) => Filled {
             stand: Stand::At(0, 1, size),
-            used: used,
+            used,
         },
-        Start::Refused(number) => Filled {
+        Err(refusal) => Filled {
             stand: Stand::Over,
-            used: lines::put_line(0, number, &[], buffer, used),
+            used: lines::put_line(0, u8::from(refusal), &[], buffer, used),
         },
     }
 }

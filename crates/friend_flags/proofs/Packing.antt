@@ -13,7 +13,6 @@ use lib.ListN.{get_or}
 use lib.Pow.{pow-add, pow_mono, shl_exact, shl-shr}
 use Rattle.model.specs.Bytes.{digit, bit, four}
 use Rattle.model.proofs.Bits.{digit_or, bit_or_lem, digit_shr, digit_above, digit_zero, digit_suc, no_bit, below_no_bit, no_bit_below}
-use Rattle.model.proofs.Sets.{none_in_zero}
 use Rattle.friend_flags.specs.Flags.{Packed}
 
 -- ---- a byte ored into a word at bit s
@@ -150,9 +149,6 @@ module _ (flags : List ℕ) (at : ℕ) (ok : (k : ℕ) → get_or flags k 0 ≤ 
           ∙ in_sum
 
 -- ---- a word, eight flags at a time
-
-pub packed_none : (flags : List ℕ) (at : ℕ) → Packed flags at 0 0
-packed_none flags at = record { digits = λ k h. absurd (omega arith); none_above = none_in_zero 0 }
 
 pub packed_more : (flags : List ℕ) (at m word x : ℕ) → m ≤ 56 → Packed flags at m word → Packed flags (at + m) 8 x
     → Packed flags at (m + 8) (bit_or word (x * 2 ^ m % 2 ^ 64))

@@ -6,10 +6,10 @@ abbrev pub flag : Bool → ℕ
 flag true = 1
 flag false = 0
 
--- the first count flags tell which numbers pass a test; the others stay
-pub record Told (test : ℕ → Bool) (count : ℕ) (before after : List ℕ) : Type 0 where
+-- the first count flags tell what a test says of each state; the others stay
+pub record Told (Says : ℕ → Bool → Type 0) (states : List ℕ) (count : ℕ) (before after : List ℕ) : Type 0 where
   pub long : length after ≡ length before
-  pub each : (k : ℕ) → k < count → get_or after k 0 ≡ flag (test k)
+  pub each : (k : ℕ) → k < count → (t : Bool) × Says (get_or states k 0) t × (get_or after k 0 ≡ flag t)
   pub kept : (k : ℕ) → count ≤ k → get_or after k 0 ≡ get_or before k 0
 
 -- the first count flags tell which pair bytes from a place on have a marked state; the others stay

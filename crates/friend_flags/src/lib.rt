@@ -2,44 +2,29 @@
 
 #![tactic(auto)]
 
-ghost use Rattle.std.specs.Prelude.{◌≡◌, ℕ, ◌+◌, ◌%◌, ◌<◌, ◌≤◌, eqb, length, get_or};
-ghost use Rattle.model.specs.Bytes.{byte, bit};
+ghost use Rattle.std.specs.Prelude.{◌≡◌, ℕ, ◌+◌, ◌<◌, ◌≤◌, length, get_or};
 ghost use Rattle.friend_flags.specs.Flags.{Flagged, Packed, Told};
 
-// Flags the pairs from a place on that have state q. No early exit: it becomes vector code.
-fn same(network: &[u8], at: usize, q: u8, count: usize, flags: &mut [u8])
-    requires { (at + count ≤ length network.now) × (count ≤ length flags.old) }
-    ensures { Told (λ k. eqb (byte network.now (at + k)) q) count flags.old flags.new }
+// Flags the states that pass a test. No early exit: it becomes vector code.
+fn tell<F: Fn(u8) -> bool>(states: &[u8], flags: &mut [u8], test: F)
+    requires { F.IsAlwaysCallable test × (length states.now ≤ length flags.old) }
+    ensures { Told (F.post test) states.now (length states.now) flags.old flags.new }
 {
-    let mut k: usize = 0;
-    while k < count {
-        flags[k] = (network[at + k] == q) as u8;
-        k += 1;
+    for (k, state) in states.iter().enumerate() {
+        flags[k] = u8::from(test(*state));
     }
 }
 
-// Flags the pairs from a place on that have a marked state.
-fn among(network: &[u8], at: usize, marks: u16, count: usize, flags: &mut [u8])
-    requires { (at + count ≤ length network.now) × (count ≤ length flags.old) }
-    ensures { Told (λ k. bit marks (byte network.now (at + k) % 32)) count flags.old flags.new }
+// Flags the pairs that have a marked state, by their states: where one state is marked, by comparing bytes.
+pub fn mark(marks: u16, states: &[u8], flags: &mut [u8])
+    requires { (length states.now ≤ length flags.old) × ((k : ℕ) → get_or states.now k 0 < 32) }
+    ensures { Flagged states.now marks 0 (length states.now) flags.old flags.new }
 {
-    let mut k: usize = 0;
-    while k < count {
-        flags[k] = network::read::marked(marks, network[at + k]) as u8;
-        k += 1;
-    }
-}
-
-// Flags the pairs from a place on that have a marked state: where one state is marked, by comparing bytes.
-pub fn mark(marks: u16, network: &[u8], at: usize, count: usize, flags: &mut [u8])
-    requires { (at + count ≤ length network.now) × (count ≤ length flags.old) × ((k : ℕ) → k < count → byte network.now (at + k) < 32) }
-    ensures { Flagged network.now marks at count flags.old flags.new }
-{
-    let q = u16::trailing_zeros(marks);
-    if 1u32 << q == marks as u32 {
-        same(network, at, q as u8, count, flags);
+    if marks.is_power_of_two() {
+        let q = marks.trailing_zeros() as u8;
+        tell(states, flags, |b| b == q);
     } else {
-        among(network, at, marks, count, flags);
+        tell(states, flags, |b| network::marked(marks, b));
     }
 }
 
@@ -48,8 +33,8 @@ fn eight(flags: &[u8], at: usize) -> u64
     requires { (at + 8 ≤ length flags.now) × ((k : ℕ) → get_or flags.now k 0 ≤ 1) }
     ensures { Packed flags.now at 8 result }
 {
-    let high = records::four(flags, at + 4) as u64;
-    let apart = records::four(flags, at) as u64 + high * 16;
+    let high = u64::from(records::four(flags, at + 4));
+    let apart = u64::from(records::four(flags, at)) + high * 16;
     (apart * 2113665 >> 21) % 256
 }
 
@@ -59,10 +44,8 @@ pub fn word(flags: &[u8], at: usize) -> u64
     ensures { Packed flags.now at 64 result }
 {
     let mut bits: u64 = 0;
-    let mut m: usize = 0;
-    while m < 64 {
-        bits = bits | (eight(flags, at + m) << m);
-        m += 8;
+    for m in 0..8 {
+        bits |= eight(flags, at + 8 * m) << (8 * m);
     }
     bits
 }

@@ -5,23 +5,21 @@
 ghost use Rattle.std.specs.Prelude.{◌≡◌, ◌<◌, ◌≤◌, length, take};
 ghost use Rattle.model.specs.Requests.{those};
 ghost use Rattle.model.specs.Calls.{FrontOnly};
-ghost use Rattle.network.specs.Ready.{Ready, graph_of};
+ghost use Rattle.network.specs.Worlds.{members_in, graph_in};
 
-use tables::Summary;
+use network::World;
 
 // Writes u's friends in rising order at the front of the output; how many.
-pub fn write(scheme: &[u8], c: Summary, network: &[u8], u: usize, output: &mut [u16]) -> usize
-    requires { Ready scheme.now c network.now × (u < c.members) × (c.members ≤ length output.old) }
-    ensures { (take result output.new ≡ those ((graph_of scheme.now network.now).friends u) c.members) × FrontOnly result output.old output.new }
+pub fn write(world: &World<'_>, u: usize, output: &mut [u16]) -> usize
+    requires { (u < members_in world.now) × (members_in world.now ≤ length output.old) }
+    ensures { (take result output.new ≡ those ((graph_in world.now).friends u) (members_in world.now)) × FrontOnly result output.old output.new }
 {
-    let mut count: usize = 0;
-    let mut m: usize = 0;
-    while m < c.members {
-        if network::read::friends(scheme, c, network, u, m) {
+    let mut count = 0;
+    for m in 0..world.members() {
+        if world.friends(u, m) {
             output[count] = m as u16;
             count += 1;
         }
-        m += 1;
     }
     count
 }

@@ -2,23 +2,20 @@
 
 #![tactic(auto)]
 
-ghost use Rattle.tables.specs.Read.{ReadAs, MarksOf};
+ghost use Rattle.tables.specs.Read.{MarksOf};
 
-use tables::Summary;
+use tables::Scheme;
 
 // The states that make friends, as a set.
-pub fn marks(s: &[u8], c: Summary) -> u16
-    requires { ReadAs s.now c }
-    ensures { MarksOf s.now c.states result }
+pub fn marks(scheme: &Scheme<'_>) -> u16
+    ensures { MarksOf scheme.now.bytes.now scheme.now.counts.states result }
 {
-    let at = tables::marks_at(c);
+    let at = scheme.counts.marks_at();
     let mut set: u16 = 0;
-    let mut q: usize = 0;
-    while q < c.states {
-        if s[at + q] == 1 {
-            set = set | (1u16 << q);
+    for q in 0..scheme.counts.states {
+        if scheme.bytes[at + q] == 1 {
+            set |= 1 << q;
         }
-        q += 1;
     }
     set
 }

@@ -2,7 +2,7 @@
 
 #![tactic(auto)]
 
-#[derive(Clone, Copy)]
+#[derive(Clone, Copy, Debug, PartialEq, Eq)]
 pub enum Request {
     // v uses primitive a towards u
     Event(usize, usize, usize),

@@ -1,1 +1,1 @@
-pub mod ByShared
+pub mod ByRow

@@ -2,43 +2,33 @@
 
 #![tactic(auto)]
 
-ghost use Rattle.std.specs.Prelude.{◌≡◌, ℕ, ◌<◌, length};
+ghost use Rattle.std.specs.Prelude.{ℕ, ◌<◌};
 ghost use Rattle.model.specs.Decides.{Decides};
 ghost use Rattle.model.specs.Graph.{Graph};
 ghost use Rattle.model.specs.Policies.{Admits, known};
-ghost use Rattle.network.specs.Ready.{Ready, graph_of};
+ghost use Rattle.network.specs.Worlds.{members_in, graph_in};
 ghost use Rattle.sets.specs.Rows.{FriendRow, row_of};
 ghost use Rattle.known.specs.Acquainted.{Acquainted};
 
-use tables::Summary;
+use network::World;
 
 // Two members are one or friends; or else they share so many friends.
-#[derive(Clone, Copy)]
+#[derive(Clone, Copy, Debug, PartialEq, Eq)]
 pub enum Acquaintance {
     Close,
     Sharing(usize),
 }
 
 // The acquaintance of u with v, whose row is in the table.
-pub fn between(
-    scheme: &[u8],
-    c: Summary,
-    network: &[u8],
-    rows: &[u64],
-    u: usize,
-    v: usize,
-) -> Acquaintance
-    requires { Ready scheme.now c network.now × (length rows.now ≡ 1024) × (u < c.members) × (v < c.members) × FriendRow (graph_of scheme.now network.now) v (row_of rows.now v) }
-    ensures { Acquainted (graph_of scheme.now network.now) u v result }
+pub fn between(world: &World<'_>, rows: &[u64; 1024], u: usize, v: usize) -> Acquaintance
+    requires { (u < members_in world.now) × (v < members_in world.now) × FriendRow (graph_in world.now) v (row_of rows.now v) }
+    ensures { Acquainted (graph_in world.now) u v result }
 {
-    if u == v {
-        return Acquaintance::Close;
-    }
     let of_v = sets::row(rows, v);
-    if sets::has(of_v, u) {
+    if u == v || sets::has(of_v, u) {
         return Acquaintance::Close;
     }
-    let of_u = rows::friend_row(scheme, c, network, u);
+    let of_u = rows::friend_row(world, u);
     Acquaintance::Sharing(sets::shared(of_u, of_v) as usize)
 }
 

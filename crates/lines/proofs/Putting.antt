@@ -6,8 +6,8 @@ use native.Mathlib.Numerals.{add-one, unary_clauses}
 use native.Mathlib.Omega.{arith}
 use native.Mathlib.Decide.{dec_lt}
 use lib.Pow.{pow-add}
-use lib.ListN.{length, get_or, take, drop, set, length-set, length-append, take-append-drop}
-use lib.Seq.{take-length, take-suc, take-suc-set, drop-set-lt, drop-drop}
+use lib.ListN.{length, get_or, take, drop, length-append, take-append-drop}
+use lib.Seq.{take-suc, drop-drop}
 use borrow.Author.Tests.{lt-ltb, le-ltb}
 use Rattle.io.specs.Digits.{last_digits, IsDigitCount}
 use Rattle.model.specs.Text.{digits_of, decimal, spaced, line_of}
@@ -15,15 +15,6 @@ use Rattle.lines.specs.Put.{Put}
 
 pub put_none : {old : List ℕ} {at : ℕ} → at ≤ length old → Put old at [] at old
 put_none {old} {at} h = record { long = refl; size = omega arith; fits = h; front = sym (append-nil (take at old)); behind = refl }
-
-pub put_one : {old : List ℕ} {at : ℕ} (x : ℕ) → at < length old → Put old at (x ∷ []) (at + 1) (set old at x)
-put_one {old} {at} x h = record {
-  long = length-set old at x;
-  size = refl;
-  fits = omega arith;
-  front = rw (add-one at) (take-suc-set old at x h);
-  behind = drop-set-lt (at + 1) old at x (omega arith);
-}
 
 -- the law by which all is put together
 pub put_then : {a b c s t : List ℕ} {i j k : ℕ} → Put a i s j b → Put b j t k c → Put a i (s ++ t) k c
@@ -78,10 +69,6 @@ unfolding decimal
 is_decimal n zero text b (l, h, m) e = absurd (omega arith)
 is_decimal n (suc k) text b f e = e ∙ fewest_digits 4 n k (omega arith) f
 
--- a turn of the loop over a text, and of the loop over the numbers
-pub put_byte_more : (text : List ℕ) (i : ℕ) {a b c : List ℕ} {at e r : ℕ} → i < length text → Put a at (take i text) e b → Put b e (get_or text i 0 ∷ []) r c → Put a at (take (i + 1) text) r c
-put_byte_more text i h p q = rw (add-one i, take-suc text i 0 h) (put_then p q)
-
 spaced_append : (k l : List ℕ) → spaced (k ++ l) ≡ spaced k ++ spaced l
 spaced_append [] l = refl
 spaced_append (x ∷ k) l = ap (λ (r : List ℕ). (32 ∷ decimal x) ++ r) (spaced_append k l) ∙ sym (append_assoc (32 ∷ decimal x) (spaced k) (spaced l))
@@ -100,13 +87,6 @@ pub put_line : (position answer : ℕ) (friends : List ℕ) {a b c d e : List �
 unfolding line_of
 put_line position answer friends p q s t =
     rw (← append_assoc (decimal position) (32 ∷ decimal answer) (spaced friends)) (put_then (put_then (put_then p q) s) t)
-
--- all of a text or list is put where its whole length is
-pub put_whole : (text : List ℕ) (i : ℕ) {a b : List ℕ} {at e : ℕ} → i ≡ length text → Put a at (take i text) e b → Put a at text e b
-put_whole text i h p = rw (ap (λ (m : ℕ). take m text) h ∙ take-length text) at p
-
-pub put_all : (numbers : List ℕ) (i : ℕ) {a b : List ℕ} {at e : ℕ} → i ≡ length numbers → Put a at (spaced (take i numbers)) e b → Put a at (spaced numbers) e b
-put_all numbers i h p = rw (ap (λ (m : ℕ). take m numbers) h ∙ take-length numbers) at p
 
 pub put_as : {a b s t : List ℕ} {at r : ℕ} → Put a at s r b → s ≡ t → Put a at t r b
 put_as p e = rw e at p

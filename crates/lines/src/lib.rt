@@ -19,20 +19,11 @@ fn put_bytes(text: &[u8], buffer: &mut [u8], at: usize) -> usize
     requires { at + length text.now ≤ length buffer.old }
     ensures { Put buffer.old at text.now result buffer.new × (result ≡ at + length text.now) }
 {
-    let mut i: usize = 0;
     let mut end = at;
-    while i < text.len() {
-        end = put_byte(text[i], buffer, end);
-        i += 1;
+    for byte in text {
+        end = put_byte(*byte, buffer, end);
     }
     end
-}
-
-// The number, as wide as `io::decimal` takes it.
-fn wide(n: u16) -> u64
-    ensures { result ≡ n }
-{
-    n as u64
 }
 
 // A number in decimal.
@@ -41,7 +32,7 @@ fn put_number(n: u16, buffer: &mut [u8], at: usize) -> usize
     ensures { Put buffer.old at (decimal n) result buffer.new × (result ≤ at + 5) }
 {
     let mut text = [0u8; 20];
-    let k = io::decimal(wide(n), &mut text);
+    let k = io::decimal(u64::from(n), &mut text);
     put_bytes(&text[..k], buffer, at)
 }
 
@@ -59,19 +50,11 @@ fn put_list(numbers: &[u16], buffer: &mut [u8], at: usize) -> usize
     requires { at + 6 * length numbers.now ≤ length buffer.old }
     ensures { Put buffer.old at (spaced numbers.now) result buffer.new × (result ≤ at + 6 * length numbers.now) }
 {
-    let mut i: usize = 0;
     let mut end = at;
-    while i < numbers.len() {
-        end = put_next(numbers[i], buffer, end);
-        i += 1;
+    for number in numbers {
+        end = put_next(*number, buffer, end);
     }
     end
-}
-
-fn answer_number(answer: u8) -> u16
-    ensures { result ≡ answer }
-{
-    answer as u16
 }
 
 // The line, from a place of the buffer on; where it ends.
@@ -80,7 +63,7 @@ pub fn put_line(position: u16, answer: u8, friends: &[u16], buffer: &mut [u8], a
     ensures { Put buffer.old at (line_of position answer friends.now) result buffer.new × (result ≤ at + longest (length friends.now)) }
 {
     let first = put_number(position, buffer, at);
-    let second = put_next(answer_number(answer), buffer, first);
+    let second = put_next(u16::from(answer), buffer, first);
     let last = put_list(friends, buffer, second);
     put_byte(b'\n', buffer, last)
 }

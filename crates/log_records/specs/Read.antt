@@ -1,15 +1,19 @@
 -- What the log reader answers, in document 01's numbers and requests.
-use Rattle.std.specs.Prelude.{ℕ, ◌≡◌, List}
+use Rattle.std.specs.Prelude.{ℕ, ◌≡◌, List, Option, None, Some, Result, Ok, Err}
 use Rattle.model.specs.Log.{Outcome, ended, refused, request, NextAt, place_after}
 use Rattle.kinds.specs.Kinds.{request_of}
-use Rattle.log_records.specs.declared.Answer.{Answer}
-use Rattle.log_records.specs.declared.Answer.TheVariants.{Asks, Refused, Ended}
+use Rattle.kinds.specs.declared.Request.{Request}
+use Rattle.refusals.specs.Numbers.{number}
+use Rattle.refusals.specs.declared.Refusal.{Refusal}
+
+abbrev pub Answer : Type 0
+Answer = Option (Result Request Refusal)
 
 -- document 01's outcome of an answer, where a list is lent this many places
 abbrev pub outcome : ℕ → Answer → Outcome
-outcome lent (Asks q) = request (request_of q lent)
-outcome lent Refused = refused 14
-outcome lent Ended = ended
+outcome lent (Some (Ok q)) = request (request_of q lent)
+outcome lent (Some (Err refusal)) = refused (number refusal)
+outcome lent None = ended
 
 -- the answer is what document 01 says at this place of the log
 abbrev pub SaidAt : List ℕ → ℕ → Answer → Type 0

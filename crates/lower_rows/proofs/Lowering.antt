@@ -1,43 +1,26 @@
 -- Rows by flags.
-use Prim.Native.Nat.{ℕ, zero, suc, ◌+◌, ◌-◌, ◌*◌, ◌/◌, ◌%◌, ◌≤◌, ◌<◌}
+use Prim.Native.Nat.{ℕ, ◌+◌, ◌-◌, ◌≤◌, ◌<◌}
 use mathlib.Core.Path.{◌≡◌, refl, ap, ◌∙◌}
 use mathlib.Core.Bool.{false, ◌&&◌}
-use mathlib.Core.List.{List, [], ◌∷◌}
+use mathlib.Core.List.{List}
 use mathlib.Core.Logic.{inl, inr, ⊎_elim}
 use native.Mathlib.Decide.{dec_lt}
-use native.Mathlib.Nat.{mod-lt, div-add-mod'}
 use native.Mathlib.Omega.{arith}
 use borrow.Author.Tests.{lt-ltb, le-ltb}
 use lib.Dec.{ltb}
 use lib.ListN.{length, get_or}
-use Rattle.model.specs.Bytes.{digit}
+use Rattle.std.specs.Prelude.{slice_range}
 use Rattle.model.specs.Network.{pairs}
 use Rattle.model.specs.Graph.{Graph}
-use Rattle.tables.specs.declared.Summary.{Summary}
+use Rattle.tables.specs.declared.counts.Summary.{Summary}
 use Rattle.network.specs.Ready.{Ready, graph_of}
 use Rattle.friend_flags.specs.Flags.{flag, Flagged}
-use Rattle.friend_flags.proofs.Friendships.{flag_bit, flag_small, bytes_inside, bytes_small, below_flagged, own_flagged}
+use Rattle.friend_flags.proofs.Friendships.{flag_bit, flag_small, bytes_inside, states_long, states_small, below_flagged, own_flagged, kept_behind}
 use Rattle.sets.specs.Rows.{row_bit, row_of}
 use Rattle.sets.specs.Sets.{RowPut}
 use Rattle.columns.specs.Columns.{FlagsAdded, Columns}
 use Rattle.columns.proofs.Adding.{columns_more}
 use Rattle.lower_rows.specs.Lower.{FlagsBelow, RowOfFlags, RowBelow, column_of, LowerRows}
-
-pub four_words : (flags : List ℕ) (w₀ w₁ w₂ w₃ : ℕ)
-    → ((k : ℕ) → k < 64 → digit w₀ k ≡ get_or flags (0 + k) 0)
-    → ((k : ℕ) → k < 64 → digit w₁ k ≡ get_or flags (64 + k) 0)
-    → ((k : ℕ) → k < 64 → digit w₂ k ≡ get_or flags (128 + k) 0)
-    → ((k : ℕ) → k < 64 → digit w₃ k ≡ get_or flags (192 + k) 0)
-    → RowOfFlags flags (w₀ ∷ w₁ ∷ w₂ ∷ w₃ ∷ [])
-four_words flags w₀ w₁ w₂ w₃ p₀ p₁ p₂ p₃ k h =
-    part (k / 64) (k % 64) (omega arith) (mod-lt k (omega arith)) ∙ ap (λ (i : ℕ). get_or flags i 0) (div-add-mod' k 64)
-  where
-    part : (q j : ℕ) → q < 4 → j < 64 → digit (get_or (w₀ ∷ w₁ ∷ w₂ ∷ w₃ ∷ []) q 0) j ≡ get_or flags (q * 64 + j) 0
-    part zero j l b = p₀ j b
-    part (suc zero) j l b = p₁ j b
-    part (suc (suc zero)) j l b = p₂ j b
-    part (suc (suc (suc zero))) j l b = p₃ j b
-    part (suc (suc (suc (suc q)))) j l b = absurd (omega arith)
 
 module _ {b : List ℕ} {c : Summary} {net : List ℕ} (h : Ready b c net) {m at : ℕ} (member : m < c.members) (e : at ≡ pairs m) where
   first : at ≡ pairs m + 0
@@ -46,13 +29,22 @@ module _ {b : List ℕ} {c : Summary} {net : List ℕ} (h : Ready b c net) {m at
   whole : 0 + m ≤ m
   whole = omega arith
 
+  abbrev states : List ℕ
+  states = slice_range net at (at + m)
+
   pub row_inside : at + m ≤ length net
   row_inside = bytes_inside h 0 m member whole first
 
-  pub row_small : (k : ℕ) → k < m → get_or net (at + k) 0 < 32
-  row_small = bytes_small h 0 m member whole first
+  pub row_long : length states ≡ m
+  row_long = states_long h 0 m member whole first
 
-  module _ {flags flags' : List ℕ} (below : FlagsBelow m flags) (f : Flagged net c.marks at m flags flags') where
+  pub row_small : (k : ℕ) → get_or states k 0 < 32
+  row_small = states_small h 0 m member whole first
+
+  module _ {flags flags' : List ℕ} (below : FlagsBelow m flags) (f : Flagged states c.marks 0 (length states) flags flags') where
+    behind : (k : ℕ) → m ≤ k → get_or flags' k 0 ≡ 0
+    behind k l = kept_behind h 0 m member whole first f k l ∙ below.none_above k l
+
     told : (k : ℕ) → get_or flags' k 0 ≡ flag (ltb k m && (graph_of b net).friends k m)
     told k = go (dec_lt k m)
       where
@@ -60,13 +52,13 @@ module _ {b : List ℕ} {c : Summary} {net : List ℕ} (h : Ready b c net) {m at
         go (yes l) =
             let same : 0 + k ≡ k = omega arith in
             below_flagged h 0 m member whole first f k l ∙ ap (λ (x : ℕ). flag ((graph_of b net).friends x m)) same ∙ rw (lt-ltb k m l)
-        go (no n) = f.kept k (omega arith) ∙ below.none_above k (omega arith) ∙ rw (le-ltb k m (omega arith))
+        go (no n) = behind k (omega arith) ∙ rw (le-ltb k m (omega arith))
 
     pub flags_below : FlagsBelow m flags'
     flags_below = record {
       long = f.long ∙ below.long;
       small = λ k. rw (told k) (flag_small (ltb k m && (graph_of b net).friends k m));
-      none_above = λ k l. f.kept k l ∙ below.none_above k l;
+      none_above = behind;
     }
 
     row_below : (row : List ℕ) → RowOfFlags flags' row → RowBelow (graph_of b net) m m row
@@ -78,7 +70,7 @@ module _ {b : List ℕ} {c : Summary} {net : List ℕ} (h : Ready b c net) {m at
             flag_bit _ _ ((graph_of b net).friends m k) (r k d ∙ own_flagged h 0 m member whole first f k l ∙ ap (λ (x : ℕ). flag ((graph_of b net).friends m x)) same)
 
         none : (k : ℕ) → k < 256 → m ≤ k → row_bit row k ≡ false
-        none k d l = flag_bit _ _ false (r k d ∙ f.kept k l ∙ below.none_above k l)
+        none k d l = flag_bit _ _ false (r k d ∙ behind k l)
 
     -- m's row is written, and its flags are added to the columns
     pub lower_more : {from : ℕ} {rows₀ rows rows' row columns columns' : List ℕ} → from ≤ m → m < from + 8

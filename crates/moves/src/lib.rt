@@ -3,19 +3,17 @@
 #![tactic(auto)]
 
 ghost use Rattle.std.specs.Prelude.{◌≡◌, ◌<◌};
-ghost use Rattle.model.specs.Network.{held};
 ghost use Rattle.model.specs.Requests.{next};
-ghost use Rattle.model.specs.SchemeBytes.{scheme_of};
-ghost use Rattle.network.specs.Ready.{Ready};
+ghost use Rattle.network.specs.Worlds.{members_in, scheme_of_world, held_in};
+ghost use Rattle.tables.specs.Schemes.{StateOf};
 
-use tables::Summary;
+use network::World;
 
-// The next state for the pair of v and u, v using primitive a; 255 is undefined.
-pub fn next_state(scheme: &[u8], c: Summary, network: &[u8], v: usize, u: usize, a: usize) -> u8
-    requires { Ready scheme.now c network.now × (v < c.members) × (u < c.members) × (a < c.primitives) × (v ≡ u → ⊥) }
-    ensures { result ≡ next (scheme_of scheme.now) (held (scheme_of scheme.now) network.now) v u a }
+// The next state for the pair of v and u, v using primitive a, where one is defined.
+pub fn next_state(world: &World<'_>, v: usize, u: usize, a: usize) -> Option<u8>
+    requires { (v < members_in world.now) × (u < members_in world.now) × (a < world.now.scheme.counts.primitives) × (v ≡ u → ⊥) }
+    ensures { StateOf (next (scheme_of_world world.now) (held_in world.now) v u a) result }
 {
-    let q = records::wide(network::read::state(scheme, c, network, v, u));
-    let side: usize = if u < v { 1 } else { 0 };
-    tables::next_state(scheme, c, q, side, a)
+    let state = usize::from(world.state(v, u));
+    world.scheme.next_state(state, usize::from(u < v), a)
 }

@@ -1,2 +1,2 @@
-mod Nearby
-mod Passing
+pub mod Nearby
+pub mod Passing

@@ -7,7 +7,7 @@ use native.Mathlib.Omega.{arith}
 use Rattle.model.specs.Graph.{Graph, Friends}
 use Rattle.model.proofs.Counting.{count_some}
 use Rattle.model.proofs.Deciding.{is_true, conj}
-use Rattle.nearby.proofs.Passing.{Passed, passed_next}
+use Rattle.nearby.proofs.Passing.{Passed, passed_one}
 use Rattle.sets.specs.Rows.{row_bit, FriendRow}
 use Rattle.sets.specs.Sets.{Has, Join, FirstFrom}
 use Rattle.nearby.specs.Near.{Near}
@@ -21,10 +21,10 @@ module _ {g : Graph} (few : g.members ≤ 256) where
   near_everybody h v = record { has = λ m b s. h m (omega arith) }
 
   -- m's friends too
-  pub around_next : {friends all row more : List ℕ} {m r : ℕ} → Passed friends m (Around g all) → FriendRow g m row → Join all row more → FirstFrom friends (m + 1) r
-      → Passed friends r (Around g more)
-  around_next {all = all} p row j f =
-      passed_next f record { each = λ k b h. record { has = λ y l o. j.bits y ∙ rw ((p.each k b h).has y l o) } }
+  pub around_next : {friends all row more : List ℕ} {from m : ℕ} → Passed friends from (Around g all) → FirstFrom friends from m → FriendRow g m row → Join all row more
+      → Passed friends (m + 1) (Around g more)
+  around_next {all = all} p f row j =
+      passed_one f record { each = λ k b h. record { has = λ y l o. j.bits y ∙ rw ((p.each k b h).has y l o) } }
       record { has = λ y l o. j.bits y ∙ rw (row.bits y (omega arith) ∙ o) (or-true (row_bit all y)) }
 
   pub near_all : {friends all : List ℕ} {m : ℕ} → ((x y : ℕ) → g.friends x y ≡ g.friends y x) → Passed friends m (Around g all) → g.members ≤ m → (v : ℕ)

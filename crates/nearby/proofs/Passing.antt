@@ -11,13 +11,17 @@ use Rattle.sets.specs.Sets.{Has, FirstFrom}
 pub record Passed (set : List ℕ) (m : ℕ) (P : ℕ → Type 0) : Type 0 where
   pub each : (k : ℕ) → k < m → Has set k → P k
 
-pub passed_none : {set : List ℕ} {r : ℕ} {P : ℕ → Type 0} → FirstFrom set 0 r → Passed set r P
-passed_none f = record { each = λ k b h. absurd (false≢true (sym (f.none k (omega arith) b) ∙ h)) }
+module _ {set : List ℕ} {from r : ℕ} {P : ℕ → Type 0} (f : FirstFrom set from r) where
+  pub passed_to : Passed set from P → Passed set r P
+  passed_to p = record { each = λ k b h. go k b h (dec_lt k from) }
+    where
+      go : (k : ℕ) → k < r → Has set k → Dec (k < from) → P k
+      go k b h (yes d) = p.each k d h
+      go k b h (no d) = absurd (false≢true (sym (f.none k (omega arith) b) ∙ h))
 
-pub passed_next : {set : List ℕ} {m r : ℕ} {P : ℕ → Type 0} → FirstFrom set (m + 1) r → Passed set m P → P m → Passed set r P
-passed_next {set} {m} {r} {P} f p here = record { each = λ k b h. go k b h (dec_lt k m) (ℕ_discrete k m) }
-  where
-    go : (k : ℕ) → k < r → Has set k → Dec (k < m) → Dec (k ≡ m) → P k
-    go k b h (yes d) e = p.each k d h
-    go k b h (no d) (yes e) = rw e here
-    go k b h (no d) (no e) = absurd (false≢true (sym (f.none k (omega arith) b) ∙ h))
+  pub passed_one : Passed set from P → P r → Passed set (r + 1) P
+  passed_one p here = record { each = λ k b h. go k b h (ℕ_discrete k r) }
+    where
+      go : (k : ℕ) → k < r + 1 → Has set k → Dec (k ≡ r) → P k
+      go k b h (yes e) = rw e here
+      go k b h (no n) = (passed_to p).each k (omega arith) h

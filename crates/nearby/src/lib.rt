@@ -2,36 +2,29 @@
 
 #![tactic(auto)]
 
-ghost use Rattle.std.specs.Prelude.{ℕ, ◌<◌};
-ghost use Rattle.network.specs.Ready.{Ready, graph_of};
+ghost use Rattle.std.specs.Prelude.{ℕ};
+ghost use Rattle.network.specs.Worlds.{graph_in};
 ghost use Rattle.sets.specs.Rows.{FriendRow};
-ghost use Rattle.sets.specs.Sets.{Has};
 ghost use Rattle.nearby.specs.Near.{Near};
 
-use tables::Summary;
-
-// Every member.
-fn everybody() -> [u64; 4]
-    ensures { (m : ℕ) → m < 256 → Has result m }
-{
-    [!0u64; 4]
-}
+use network::World;
 
 // A set with every member that shares a friend with the one whose friends are given: the friends of its friends, or everybody
 // where it has many.
-pub fn members(scheme: &[u8], c: Summary, network: &[u8], friends: [u64; 4]) -> [u64; 4]
-    requires { Ready scheme.now c network.now }
-    ensures { (v : ℕ) → FriendRow (graph_of scheme.now network.now) v friends → Near (graph_of scheme.now network.now) v result }
+pub fn members(world: &World<'_>, friends: [u64; 4]) -> [u64; 4]
+    ensures { (v : ℕ) → FriendRow (graph_in world.now) v friends → Near (graph_in world.now) v result }
 {
-    if sets::shared(friends, friends) as usize > c.members / 16 + 8 {
-        return everybody();
+    if sets::shared(friends, friends) as usize > world.members() / 16 + 8 {
+        return [!0; 4];
     }
-    let mut all = [0u64; 4];
-    let mut m = sets::first_from(friends, 0);
-    while m < c.members {
-        let more = sets::join(all, rows::friend_row(scheme, c, network, m));
+    let mut all = [0; 4];
+    let mut from = 0;
+    while let Some(m) = sets::first_from(friends, from)
+        && m < world.members()
+    {
+        let more = sets::join(all, rows::friend_row(world, m));
         all = more;
-        m = sets::first_from(friends, m + 1);
+        from = m + 1;
     }
     all
 }

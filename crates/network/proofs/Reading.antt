@@ -1,22 +1,23 @@
 -- What is known of a network that passes 5: the counts, and where each byte stands.
 use Prim.Native.Nat.{ℕ, ◌+◌, ◌*◌, ◌%◌, ◌<◌, ◌≤◌, min, max}
-use mathlib.Core.Path.{◌≡◌, sym, ap, ◌∙◌}
+use mathlib.Core.Path.{◌≡◌, refl, sym, ap, ◌∙◌}
 use mathlib.Core.Bool.{Bool, false, and-false}
 use mathlib.Core.List.{List}
-use native.Mathlib.Nat.{mul-le-mul, mul-le-mul_right, suc-mul}
+use native.Mathlib.Nat.{mul-le-mul_right, suc-mul}
 use native.Mathlib.Numerals.{add-one}
+use native.Mathlib.Decide.{dec_lt}
 use native.Mathlib.Omega.{arith}
 use borrow.Author.Tests.{eq-eqb, ne_eqb, lt-ltb, le-ltb}
 use lib.ListN.{length, get_or}
 use Rattle.model.specs.Bytes.{bit}
-use Rattle.model.specs.Network.{Maps, pairs, pair_place, setting_place, size, held, state_of}
+use Rattle.model.specs.Network.{Maps, pairs, pair_place, setting_place, held, state_of}
 use Rattle.model.specs.SchemeBytes.{n, A, I, P, scheme_of}
 use Rattle.model.proofs.Bits.{bit_below}
 use Rattle.model.proofs.Held.{held_state, held_setting, other_state}
 use Rattle.model.proofs.Places.{pairs_suc, pairs_mono, pair_before, setting_before}
 use Rattle.tables.specs.Read.{InRange, ReadAs}
-use Rattle.tables.specs.declared.Summary.{Summary}
-use Rattle.scheme.proofs.Accepting.{accepted_read}
+use Rattle.tables.specs.declared.counts.Summary.{Summary}
+use Rattle.tables.proofs.Accepting.{accepted_read}
 use Rattle.network.specs.Ready.{Ready, graph_of}
 
 pub pairs_small : (n : ℕ) → n ≤ 256 → pairs n ≤ 32640
@@ -64,6 +65,24 @@ module _ {b : List ℕ} {c : Summary} {net : List ℕ} (h : Ready b c net) where
       let (x, y) = pair_state (held (scheme_of b) net) i j a in
       (sym (x ∙ e), sym (y ∙ e), omega (arith, e, h.valid.fits.states i j a m))
 
+  -- the state of two members who are two
+  pub state_held : (u v : ℕ) → u < c.members → v < c.members → (u ≡ v → ⊥)
+      → (get_or net (pair_place (min u v) (max u v)) 0 ≡ state_of (held (scheme_of b) net) u v)
+      × (get_or net (pair_place (min u v) (max u v)) 0 < c.states)
+  state_held u v k l d =
+      elim (dec_lt u v) [
+        | yes a ↦
+            let x : min u v ≡ u = omega arith in
+            let y : max u v ≡ v = omega arith in
+            let e : get_or net (pair_place (min u v) (max u v)) 0 ≡ get_or net (pair_place u v) 0 = rw (x, y) refl in
+            let (p, q, r) = pair_held u v a l in (e ∙ p, omega (arith, e, r))
+        | no a ↦
+            let x : min u v ≡ v = omega arith in
+            let y : max u v ≡ u = omega arith in
+            let e : get_or net (pair_place (min u v) (max u v)) 0 ≡ get_or net (pair_place v u) 0 = rw (x, y) refl in
+            let (p, q, r) = pair_held v u (omega (arith, a, d)) k in (e ∙ q, omega (arith, e, r))
+      ]
+
   -- the byte of member m's setting for resource r
   pub setting_at : (m r : ℕ) → pairs c.members + (m * (2 + c.primitives + c.items) + r) ≡ setting_place (scheme_of b) m r
   setting_at m r = rw (h.counts.members, h.counts.primitives, h.counts.items)
@@ -110,16 +129,3 @@ stride_next at stride m members e h =
     let n : (m + 1) * stride ≡ m * stride + stride = rw (add-one, suc-mul) in
     let l : (m + 1) * stride ≤ members * stride = mul-le-mul_right stride (omega arith) in
     (omega arith, omega arith)
-
--- where the settings stand, and how many there are
-module _ {b : List ℕ} {c : Summary} (h : ReadAs b c) {from resources : ℕ}
-    (f : from ≡ pairs c.members) (e : resources ≡ 2 + c.primitives + c.items) where
-  pub settings_end : from + c.members * resources ≡ size (scheme_of b)
-  settings_end = rw (f, e, h.counts.members, h.counts.primitives, h.counts.items)
-
-  pub settings_small : c.members * resources ≤ 6656
-  settings_small =
-      let m : c.members ≤ 256 = omega (arith, h.range) in
-      let r : resources ≤ 26 = omega (arith, h.range) in
-      let p : c.members * resources ≤ 256 * 26 = mul-le-mul m r in
-      omega arith

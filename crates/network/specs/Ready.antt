@@ -5,7 +5,7 @@ use Rattle.model.specs.Graph.{Graph}
 use Rattle.model.specs.Network.{held, Valid, world}
 use Rattle.model.specs.SchemeBytes.{scheme_of, Accepted}
 use Rattle.tables.specs.Read.{CountsOf, MarksOf}
-use Rattle.tables.specs.declared.Summary.{Summary}
+use Rattle.tables.specs.declared.counts.Summary.{Summary}
 
 -- the scheme is accepted, c holds what is read once of it, and the network passes 5
 pub record Ready (b : List ℕ) (c : Summary) (net : List ℕ) : Type 0 where

@@ -2,69 +2,65 @@
 
 #![tactic(auto)]
 
+ghost use Rattle.std.specs.Prelude.{◌≡◌, ◌+◌, ◌<◌, ◌≤◌, length};
+ghost use Rattle.network.specs.Worlds.{members_in, graph_in};
+ghost use Rattle.next_friend.specs.Next.{NextFriend};
+ghost use Rattle.next_friend.specs.Side.{Apart, OnSide, place_on};
+
 pub mod marks;
 
-ghost use Rattle.std.specs.Prelude.{◌<◌, ◌≤◌, length};
-ghost use Rattle.network.specs.Ready.{Ready, graph_of};
-ghost use Rattle.next_friend.specs.Next.{Next};
+use network::{World, marked, pairs};
 
-use tables::Summary;
-
-// Below m: their bytes stand side by side.
-fn below(scheme: &[u8], c: Summary, network: &[u8], m: usize, seen: &[u16], from: usize) -> usize
-    requires { Ready scheme.now c network.now × (m < c.members) × (c.members ≤ length seen.now) × (from ≤ m) }
-    ensures { Next (graph_of scheme.now network.now) m seen.now from m result }
+// Where the state of m and k stands, k above m or below it.
+fn place<const ABOVE: bool>(m: usize, k: usize) -> usize
+    requires { (m ≤ 256) × (k ≤ 256) }
+    ensures { (result ≡ place_on ABOVE m k) × (result ≤ 32896) }
 {
-    let at = network::read::pairs(m);
-    let mut k = from;
-    while k < m {
-        if network::read::marked(c.marks, network[at + k]) {
-            if seen[k] == 0 {
-                return k;
-            }
-        }
-        k += 1;
-    }
-    k
+    if ABOVE { pairs(k) + m } else { pairs(m) + k }
 }
 
-// Above m: the byte of the next stands k further.
-fn above(scheme: &[u8], c: Summary, network: &[u8], m: usize, seen: &[u16], from: usize) -> usize
-    requires { Ready scheme.now c network.now × (m < from) × (c.members ≤ length seen.now) × (from ≤ c.members) }
-    ensures { Next (graph_of scheme.now network.now) m seen.now from c.members result }
+// How much further that of m and the next stands.
+fn step<const ABOVE: bool>(k: usize) -> usize
+    requires { k ≤ 256 }
+    ensures { Apart ABOVE k result × (result ≤ 256) }
 {
-    let mut at = network::read::pairs(from) + m;
-    let mut k = from;
-    while k < c.members {
-        if network::read::marked(c.marks, network[at]) {
-            if seen[k] == 0 {
-                return k;
-            }
-        }
-        at += k;
-        k += 1;
-    }
-    k
+    if ABOVE { k } else { 1 }
 }
 
-// The first friend of m from a member on who is not seen, or the number of members.
-pub fn friend(
-    scheme: &[u8],
-    c: Summary,
-    network: &[u8],
+// The first friend of m who is not seen, of those from one member on before another, on one side of m.
+fn on_side<const ABOVE: bool>(
+    world: &World<'_>,
     m: usize,
     seen: &[u16],
     from: usize,
-) -> usize
-    requires { Ready scheme.now c network.now × (m < c.members) × (c.members ≤ length seen.now) × (from ≤ c.members) }
-    ensures { Next (graph_of scheme.now network.now) m seen.now from c.members result }
+    end: usize,
+) -> Option<usize>
+    requires { (m < members_in world.now) × (members_in world.now ≤ length seen.now) × (from ≤ end) × (end ≤ members_in world.now) × OnSide ABOVE m from end }
+    ensures { NextFriend (graph_in world.now) m seen.now from end result }
 {
+    let network = world.network;
+    let friendly = world.scheme.counts.marks;
+    let mut at = place::<ABOVE>(m, from);
+    for k in from..end {
+        if marked(friendly, network[at]) && seen[k] == 0 {
+            return Some(k);
+        }
+        at += step::<ABOVE>(k);
+    }
+    None
+}
+
+// The first friend of m from a member on who is not seen.
+pub fn friend(world: &World<'_>, m: usize, seen: &[u16], from: usize) -> Option<usize>
+    requires { (m < members_in world.now) × (members_in world.now ≤ length seen.now) × (from ≤ members_in world.now) }
+    ensures { NextFriend (graph_in world.now) m seen.now from (members_in world.now) result }
+{
+    let members = world.members();
     if m < from {
-        return above(scheme, c, network, m, seen, from);
+        return on_side::<true>(world, m, seen, from, members);
     }
-    let k = below(scheme, c, network, m, seen, from);
-    if k < m {
-        return k;
+    if let Some(k) = on_side::<false>(world, m, seen, from, m) {
+        return Some(k);
     }
-    above(scheme, c, network, m, seen, m + 1)
+    on_side::<true>(world, m, seen, m + 1, members)
 }

@@ -1,3 +1,1 @@
-pub mod OpenAnswers
-pub mod CallAnswers
-pub mod FindAnswers
+pub mod Opening

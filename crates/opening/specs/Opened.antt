@@ -1,12 +1,13 @@
 -- The scheme check, 5 and 6, with which the calls begin.
-use Rattle.std.specs.Prelude.{ℕ, ◌<◌, ◌≤◌, List, [], ◌∷◌, ◌++◌}
+use Rattle.std.specs.Prelude.{ℕ, ◌<◌, ◌≡◌, List, [], ◌∷◌, ◌++◌, Result, Ok, Err}
 use Rattle.model.specs.Answers.{Requirement, Answers}
 use Rattle.model.specs.SchemeBytes.{scheme_of, scheme_needs}
 use Rattle.model.specs.Network.{Valid}
 use Rattle.model.specs.Requests.{BothMembers}
-use Rattle.scheme.specs.declared.Reading.{Reading}
-use Rattle.scheme.specs.declared.Reading.TheVariants.{Accepted, Refused}
-use Rattle.network.specs.Ready.{Ready}
+use Rattle.refusals.specs.Numbers.{number}
+use Rattle.refusals.specs.declared.Refusal.{Refusal}
+use Rattle.network.specs.Worlds.{members_in}
+use Rattle.network.specs.declared.world.World.{World}
 
 -- the scheme check and 5
 abbrev pub open_needs : List ℕ → List ℕ → List Requirement
@@ -16,7 +17,14 @@ open_needs b net = scheme_needs b ++ (5, Valid (scheme_of b) net) ∷ []
 abbrev pub member_needs : List ℕ → List ℕ → ℕ → ℕ → List Requirement
 member_needs b net v u = open_needs b net ++ (6, BothMembers (scheme_of b) v u) ∷ []
 
--- the counts of an accepted scheme whose network passes 5 and has both members, or the number of the first refusal that applies
-abbrev pub Opened : List ℕ → List ℕ → ℕ → ℕ → Reading → Type 0
-Opened b net v u (Accepted c) = Ready b c net × (v < c.members) × (u < c.members)
-Opened b net v u (Refused number) = Answers (member_needs b net v u) number × (1 ≤ number)
+-- the world is of these bytes and has both members
+pub record WorldOf (b net : List ℕ) (v u : ℕ) (w : World) : Type 0 where
+  pub scheme : w.scheme.bytes.now ≡ b
+  pub network : w.network.now ≡ net
+  pub viewer : v < members_in w
+  pub other : u < members_in w
+
+-- the world of an accepted scheme whose network passes 5 and has both members, or the first refusal that applies
+abbrev pub Opened : List ℕ → List ℕ → ℕ → ℕ → Result World Refusal → Type 0
+Opened b net v u (Ok w) = WorldOf b net v u w
+Opened b net v u (Err refusal) = Answers (member_needs b net v u) (number refusal)

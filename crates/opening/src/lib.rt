@@ -4,24 +4,25 @@
 
 ghost use Rattle.opening.specs.Opened.{Opened};
 
-use scheme::Reading;
+use network::World;
+use refusals::Refusal;
 
 // The scheme check; 5 if the network does not pass; 6 if v or u is no member.
-pub fn open(scheme: &[u8], network: &[u8], v: usize, u: usize) -> Reading
-    ensures { Opened scheme.now network.now v u result }
+pub fn open<'a>(
+    scheme: &'a [u8],
+    network: &'a [u8],
+    v: usize,
+    u: usize,
+) -> Result<World<'a>, Refusal>
+    ensures { Opened scheme.entry.now network.entry.now v u result }
 {
-    let reading = scheme::check(scheme);
-    let Reading::Accepted(c) = reading else {
-        return reading;
-    };
-    if !validity::valid(scheme, c, network) {
-        return Reading::Refused(5);
+    let scheme = scheme::check(scheme)?;
+    if !validity::valid(&scheme, network) {
+        return Err(Refusal::Network);
     }
-    if v >= c.members {
-        return Reading::Refused(6);
+    let world = World { scheme, network };
+    if v >= world.members() || u >= world.members() {
+        return Err(Refusal::Member);
     }
-    if u >= c.members {
-        return Reading::Refused(6);
-    }
-    Reading::Accepted(c)
+    Ok(world)
 }

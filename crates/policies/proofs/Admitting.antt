@@ -10,8 +10,7 @@ use Rattle.model.specs.Bytes.{bit}
 use Rattle.model.specs.Decides.{Decides}
 use Rattle.model.specs.Policies.{Admits}
 use Rattle.model.specs.SchemeBytes.{scheme_of}
-use Rattle.model.proofs.Bits.{digit_of_zero, bit_no}
-use Rattle.model.proofs.Sets.{Added, none_in_zero}
+use Rattle.model.proofs.Sets.{Added}
 use Rattle.model.proofs.Deciding.{says, is_so}
 use Rattle.network.specs.Ready.{graph_of}
 use Rattle.relation.specs.declared.Relation.{Relation}
@@ -30,13 +29,6 @@ reads_one b net u v from count relation r p f l = related_less
 -- those below p, where p combines
 pub lower_all : {b net : List ℕ} {u v from set p : ℕ} → from ≡ 0 → Admitted b net u v from p set → Admitted b net u v 0 p set
 lower_all z a = record { admits = λ q f l. a.admits q (omega arith) l; none_below = λ q l. absurd (omega arith); none_above = a.none_above }
-
-pub admitted_none : (b net : List ℕ) (u v from : ℕ) → Admitted b net u v from from 0
-admitted_none b net u v from = record {
-  admits = λ p f l. absurd (omega arith);
-  none_below = λ p l. bit_no 0 p (digit_of_zero p);
-  none_above = none_in_zero from;
-}
 
 pub admitted_more : {b net : List ℕ} {u v from set p set' : ℕ} {t : Bool} → from ≤ p → Admitted b net u v from p set → Added set p t set'
     → Decides t (Admits (graph_of b net) ((scheme_of b).policy p) u v)

@@ -1,2 +1,3 @@
-pub mod Reading
+pub mod Asking
 pub mod Prepared
+pub mod Reading

@@ -9,6 +9,13 @@ use Rattle.row_table.specs.Filled.{RowsFilled}
 use Rattle.distance.specs.Distances.{Distances}
 use Rattle.prepared.specs.Reading.{Farthest, SomeOfKind}
 
+-- the distances that policies read: those up to the farthest, or as they were
+pub record Measured (b net : List ℕ) (v : ℕ) (distances distances' : List ℕ) : Type 0 where
+  pub limit : ℕ
+  pub farthest : Farthest b (P b) limit
+  pub read : 1 ≤ limit → Distances (graph_of b net) v limit distances'
+  pub unread : limit ≡ 0 → distances' ≡ distances
+
 -- what depends on accessor v alone, as far as a policy of the scheme reads it: its distances for within, its friend row for
 -- known, the rows of all members for clique
 pub record Prepared (b net : List ℕ) (v : ℕ) (distances rows : List ℕ) : Type 0 where

@@ -1,15 +1,8 @@
 -- What the policies of a scheme read.
 use Rattle.std.specs.Prelude.{ℕ, ◌≤◌, ◌<◌, ◌≡◌, List, ◌⊎◌}
-use Rattle.model.specs.Policies.{Policy, within}
+use Rattle.model.specs.Policies.{within}
 use Rattle.model.specs.SchemeBytes.{scheme_of}
-use Rattle.rules.specs.Rules.{policy_of_rule, kind_of, RuleFits}
-use Rattle.rules.specs.declared.Rule.{Rule}
-
--- k is that of a rule of kind within, and 0 of any other
-pub record Reach (rule : Rule) (k : ℕ) : Type 0 where
-  pub small : k ≤ 255
-  pub most : (lower : ℕ → Policy) (p j : ℕ) → RuleFits p rule → policy_of_rule lower rule ≡ within j → (1 ≤ j) × (j ≤ k)
-  pub own : (k ≡ 0) ⊎ ((lower : ℕ → Policy) → policy_of_rule lower rule ≡ within k)
+use Rattle.rules.specs.Rules.{kind_of}
 
 -- k is the greatest of the first count policies of kind within, and 0 where there is none
 pub record Farthest (b : List ℕ) (count k : ℕ) : Type 0 where

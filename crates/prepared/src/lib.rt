@@ -2,95 +2,79 @@
 
 #![tactic(auto)]
 
-ghost use Rattle.std.specs.Prelude.{◌≡◌, ◌<◌, ◌≤◌, length};
+ghost use Rattle.std.specs.Prelude.{◌<◌, ◌≤◌};
 ghost use Rattle.model.specs.Decides.{Decides};
-ghost use Rattle.tables.specs.Read.{ReadAs};
-ghost use Rattle.network.specs.Ready.{Ready};
-ghost use Rattle.prepared.specs.Reading.{Reach, Farthest, SomeOfKind};
-ghost use Rattle.prepared.specs.Prepared.{Prepared, Written};
+ghost use Rattle.network.specs.Worlds.{members_in};
+ghost use Rattle.prepared.specs.Reading.{Farthest, SomeOfKind};
+ghost use Rattle.prepared.specs.Prepared.{Measured, Prepared, Written};
 
+mod accessor;
+
+pub use accessor::Accessor;
+use network::World;
 use rules::Rule;
-use tables::Summary;
-
-// The k of a rule of kind within; 0 of any other.
-fn reach(rule: Rule) -> usize
-    ensures { Reach rule result }
-{
-    match rule {
-        Rule::Within(k) => records::wide(k),
-        _ => 0,
-    }
-}
+use tables::Scheme;
 
 // The greatest k of a policy of kind within; 0 where there is none.
-fn farthest(scheme: &[u8], c: Summary) -> usize
-    requires { ReadAs scheme.now c }
-    ensures { Farthest scheme.now c.policies result }
+fn farthest(scheme: &Scheme<'_>) -> u8
+    ensures { Farthest scheme.now.bytes.now scheme.now.counts.policies result }
 {
-    let mut most: usize = 0;
-    let mut p: usize = 0;
-    while p < c.policies {
-        let k = reach(rules::policy(scheme, c, p));
-        p += 1;
-        if k > most {
-            most = k;
+    let mut most: u8 = 0;
+    for p in 0..scheme.counts.policies {
+        if let Rule::Within(k) = rules::policy(scheme, p) {
+            most = most.max(k);
         }
     }
     most
 }
 
 // Whether one of some policies is of kind known, and whether one is of kind clique.
-#[derive(Clone, Copy)]
+#[derive(Clone, Copy, Debug, PartialEq, Eq)]
 pub struct Kinds {
     pub known: bool,
     pub clique: bool,
 }
 
 // The kinds of the policies from a number on, below the count.
-pub fn kinds_of(scheme: &[u8], c: Summary, from: usize, count: usize) -> Kinds
-    requires { ReadAs scheme.now c × (from ≤ count) × (count ≤ c.policies) }
-    ensures known { Decides result.known (SomeOfKind 4 scheme.now from count) }
-    ensures clique { Decides result.clique (SomeOfKind 5 scheme.now from count) }
+pub fn kinds_of(scheme: &Scheme<'_>, from: usize, count: usize) -> Kinds
+    requires { (from ≤ count) × (count ≤ scheme.now.counts.policies) }
+    ensures known { Decides result.known (SomeOfKind 4 scheme.now.bytes.now from count) }
+    ensures clique { Decides result.clique (SomeOfKind 5 scheme.now.bytes.now from count) }
 {
     let mut known = false;
     let mut clique = false;
-    let mut p = from;
-    while p < count {
-        let kind = rules::kind(scheme, c, p);
-        known = known | (kind == 4);
-        clique = clique | (kind == 5);
-        p += 1;
+    for p in from..count {
+        match rules::policy(scheme, p) {
+            Rule::Known(_) => known = true,
+            Rule::Clique(_) => clique = true,
+            _ => {}
+        }
     }
-    Kinds {
-        known: known,
-        clique: clique,
+    Kinds { known, clique }
+}
+
+// Writes the distances from v that policies read.
+fn measure(world: &World<'_>, v: usize, distances: &mut [u16; 256])
+    requires { v < members_in world.now }
+    ensures { Measured world.now.scheme.bytes.now world.now.network.now v distances.old distances.new }
+{
+    let limit = farthest(&world.scheme);
+    if limit != 0 {
+        distance::fill(world, v, usize::from(limit), distances);
     }
 }
 
 // Computes what depends on accessor v alone, as far as a policy of the scheme reads it.
-pub fn prepare(
-    scheme: &[u8],
-    c: Summary,
-    network: &[u8],
-    v: usize,
-    distances: &mut [u16],
-    rows: &mut [u64],
-)
-    requires { Ready scheme.now c network.now × (v < c.members) × (length distances.old ≡ 256) × (length rows.old ≡ 1024) }
-    ensures prepared { Prepared scheme.now network.now v distances.new rows.new }
-    ensures written { Written scheme.now network.now v distances.old rows.old distances.new rows.new }
+pub fn prepare(world: &World<'_>, v: usize, distances: &mut [u16; 256], rows: &mut [u64; 1024])
+    requires { v < members_in world.now }
+    ensures prepared { Prepared world.now.scheme.bytes.now world.now.network.now v distances.new rows.new }
+    ensures written { Written world.now.scheme.bytes.now world.now.network.now v distances.old rows.old distances.new rows.new }
 {
-    let limit = farthest(scheme, c);
-    if limit != 0 {
-        distance::fill(scheme, c, network, v, limit, distances);
-    }
-    let some = kinds_of(scheme, c, 0, c.policies);
+    measure(world, v, distances);
+    let some = kinds_of(&world.scheme, 0, world.scheme.counts.policies);
     if some.clique {
-        row_table::fill_rows(scheme, c, network, rows);
-        return;
-    }
-    if some.known {
-        let row = rows::friend_row(scheme, c, network, v);
-        sets::put_row(rows, v, row);
+        row_table::fill_rows(world, rows);
+    } else if some.known {
+        sets::put_row(rows, v, rows::friend_row(world, v));
     }
 }

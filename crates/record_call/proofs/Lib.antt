@@ -1,2 +1,2 @@
-mod Calling
-mod Once
+pub mod Calling
+pub mod Once

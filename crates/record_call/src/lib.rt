@@ -2,36 +2,37 @@
 
 #![tactic(auto)]
 
-ghost use Rattle.std.specs.Prelude.{◌≡◌};
 ghost use Rattle.record_call.specs.Lined.{Lined};
 
-use calls::Reply;
-use log_records::Answer;
+use refusals::Refusal;
 
-// The line of a record: an answer, how many friends were listed, and the next record's place; a 14; or none.
-#[derive(Clone, Copy)]
-pub enum Line {
-    Next(u8, usize, usize),
-    Last,
-    End,
+// The line of a record: its answer, with how many friends were listed, and the next record's place; none after a 14.
+#[derive(Clone, Copy, Debug, PartialEq, Eq)]
+pub struct Line {
+    pub answer: Result<usize, Refusal>,
+    pub next: Option<usize>,
 }
 
-fn next(reply: Reply, place: usize) -> Line
-    ensures { result ≡ Line.Next reply.answer reply.count place }
-{
-    Line::Next(reply.answer, reply.count, place)
-}
-
-// Calls the request of the record at a place of the log.
-pub fn play(scheme: &[u8], log: &[u8], place: usize, network: &mut [u8], output: &mut [u16]) -> Line
+// Calls the request of the record at a place of the log; there is no line at its end.
+pub fn play(
+    scheme: &[u8],
+    log: &[u8],
+    place: usize,
+    network: &mut [u8],
+    output: &mut [u16],
+) -> Option<Line>
     ensures { Lined scheme.now log.now place network.old output.old result network.new output.new }
 {
     let step = log_reader::next_at(log, place);
-    let after = step.place;
-    let answer = step.answer;
+    let answer = step.answer?;
     match answer {
-        Answer::Asks(request) => next(calls::call(scheme, network, request, output), after),
-        Answer::Refused => Line::Last,
-        Answer::Ended => Line::End,
+        Ok(request) => Some(Line {
+            answer: calls::call(scheme, network, request, output),
+            next: Some(step.place),
+        }),
+        Err(refusal) => Some(Line {
+            answer: Err(refusal),
+            next: None,
+        }),
     }
 }

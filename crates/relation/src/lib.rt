@@ -2,143 +2,98 @@
 
 #![tactic(auto)]
 
-ghost use Rattle.std.specs.Prelude.{◌≡◌, true, ◌⊎◌, ◌<◌, ◌≤◌, length};
+ghost use Rattle.std.specs.Prelude.{◌≡◌, true, ◌⊎◌, ◌<◌, ◌≤◌};
 ghost use Rattle.model.specs.Graph.{Friends};
-ghost use Rattle.model.specs.SchemeBytes.{P};
-ghost use Rattle.network.specs.Ready.{Ready, graph_of};
-ghost use Rattle.sets.specs.Rows.{FriendRow, row_of};
-ghost use Rattle.clique.specs.Cliques.{LargestClique};
-ghost use Rattle.clique.specs.Mutual.{CliqueSize};
-ghost use Rattle.known.specs.Acquainted.{Acquainted};
+ghost use Rattle.model.specs.SchemeBytes.{n, P};
+ghost use Rattle.network.specs.Worlds.{members_in, graph_in};
+ghost use Rattle.prepared.specs.Asking.{graph_asked};
 ghost use Rattle.prepared.specs.Reading.{SomeOfKind};
-ghost use Rattle.prepared.specs.Prepared.{Prepared};
+ghost use Rattle.clique.specs.Cliques.{LargestClique};
 ghost use Rattle.relation.specs.Related.{Related, SomeWithin};
 
-use distance_mark::Distance;
 use known::Acquaintance;
-use tables::Summary;
+use network::World;
+use prepared::{Accessor, Kinds};
 
-// The distance; the acquaintance; and the members, at most 5, of the largest clique, where owner and accessor are two.
-#[derive(Clone, Copy)]
+// The distance, none above the limit; the acquaintance; and the members, at most 5, of the largest clique, where owner and
+// accessor are two.
+#[derive(Clone, Copy, Debug, PartialEq, Eq)]
 pub struct Relation {
-    pub distance: Distance,
+    pub distance: Option<u16>,
     pub acquaintance: Acquaintance,
     pub clique: usize,
 }
 
-// The acquaintance, where it is asked.
-fn acquaintance(
-    scheme: &[u8],
-    c: Summary,
-    network: &[u8],
-    rows: &[u64],
-    u: usize,
-    v: usize,
-    asked: bool,
-) -> Acquaintance
-    requires { Ready scheme.now c network.now × (length rows.now ≡ 1024) × (u < c.members) × (v < c.members) × (asked ≡ true → FriendRow (graph_of scheme.now network.now) v (row_of rows.now v)) }
-    ensures { asked ≡ true → Acquainted (graph_of scheme.now network.now) u v result }
+// The relation of u with an accessor, as far as it is asked, from what is prepared.
+pub fn of_prepared(accessor: &Accessor<'_>, u: usize, asked: Kinds) -> Relation
+    requires { (u < n accessor.now.scheme) × (asked.known ≡ true → SomeOfKind 4 accessor.now.scheme 0 (P accessor.now.scheme)) × (asked.clique ≡ true → SomeOfKind 5 accessor.now.scheme 0 (P accessor.now.scheme)) }
+    ensures { Related (graph_asked accessor.now) u accessor.now.v (SomeWithin accessor.now.scheme 0 (P accessor.now.scheme)) (asked.known ≡ true) (asked.clique ≡ true) result }
 {
-    if asked {
-        return known::between(scheme, c, network, rows, u, v);
-    }
-    Acquaintance::Close
-}
-
-// The size of the largest clique, where it is asked; of one member at once.
-fn clique_size(rows: &[u64], u: usize, v: usize, asked: bool) -> usize
-    requires { (length rows.now ≡ 1024) × (u < 256) × (v < 256) }
-    ensures { asked ≡ true → CliqueSize rows.now u v result }
-{
-    if u == v {
-        return 1;
-    }
-    if asked {
-        return clique::largest(rows, u, v);
-    }
-    0
-}
-
-// The relation of u with accessor v, as far as it is asked, from what is prepared for v.
-pub fn of_prepared(
-    scheme: &[u8],
-    c: Summary,
-    network: &[u8],
-    distances: &[u16],
-    rows: &[u64],
-    u: usize,
-    v: usize,
-    known: bool,
-    clique: bool,
-) -> Relation
-    requires { Ready scheme.now c network.now × Prepared scheme.now network.now v distances.now rows.now × (u < c.members) × (v < c.members) × (known ≡ true → SomeOfKind 4 scheme.now 0 (P scheme.now)) × (clique ≡ true → SomeOfKind 5 scheme.now 0 (P scheme.now)) }
-    ensures { Related (graph_of scheme.now network.now) u v (SomeWithin scheme.now 0 (P scheme.now)) (known ≡ true) (clique ≡ true) result }
-{
+    let acquaintance = if asked.known {
+        known::between(accessor.world, accessor.rows, u, accessor.v)
+    } else {
+        Acquaintance::Close
+    };
+    let clique = if asked.clique {
+        clique::largest(accessor.rows, u, accessor.v)
+    } else {
+        0
+    };
     Relation {
-        distance: distance_mark::read(distances[u]),
-        acquaintance: acquaintance(scheme, c, network, rows, u, v, known),
-        clique: clique_size(rows, u, v, clique),
+        distance: distance_mark::read(accessor.distances[u]),
+        acquaintance,
+        clique,
     }
 }
 
 // Whether the first common friends of u and v, one chosen after the other, make a clique of five with them.
-fn five_at_once(scheme: &[u8], c: Summary, network: &[u8], u: usize, v: usize) -> bool
-    requires { Ready scheme.now c network.now × (u < c.members) × (v < c.members) × Friends (graph_of scheme.now network.now) u v }
-    ensures { result ≡ true → (u ≡ v → ⊥) → LargestClique (graph_of scheme.now network.now) u v 5 }
+fn five_at_once(world: &World<'_>, u: usize, v: usize) -> bool
+    requires { (u < members_in world.now) × (v < members_in world.now) × Friends (graph_in world.now) u v }
+    ensures { result ≡ true → (u ≡ v → ⊥) → LargestClique (graph_in world.now) u v 5 }
 {
-    let of_u = rows::friend_row(scheme, c, network, u);
-    let common = sets::meet(of_u, rows::friend_row(scheme, c, network, v));
-    let a = sets::first_from(common, 0);
-    if a >= c.members {
+    let common = sets::meet(rows::friend_row(world, u), rows::friend_row(world, v));
+    let Some(a) = sets::first_from(common, 0) else {
         return false;
-    }
-    let with_a = sets::meet(rows::friend_row(scheme, c, network, a), common);
-    let b = sets::first_from(with_a, 0);
-    if b >= c.members {
+    };
+    let with_a = sets::meet(rows::friend_row(world, a), common);
+    let Some(b) = sets::first_from(with_a, 0) else {
         return false;
-    }
-    sets::not_empty(sets::meet(rows::friend_row(scheme, c, network, b), with_a))
+    };
+    sets::not_empty(sets::meet(rows::friend_row(world, b), with_a))
 }
 
 // The size of the largest clique with two friends: five at once, or as the rows of all members tell.
-fn clique_of_friends(scheme: &[u8], c: Summary, network: &[u8], u: usize, v: usize) -> usize
-    requires { Ready scheme.now c network.now × (u < c.members) × (v < c.members) × Friends (graph_of scheme.now network.now) u v }
-    ensures { (u ≡ v → ⊥) → LargestClique (graph_of scheme.now network.now) u v result }
+fn clique_of_friends(world: &World<'_>, u: usize, v: usize) -> usize
+    requires { (u < members_in world.now) × (v < members_in world.now) × Friends (graph_in world.now) u v }
+    ensures { (u ≡ v → ⊥) → LargestClique (graph_in world.now) u v result }
 {
-    if five_at_once(scheme, c, network, u, v) {
+    if five_at_once(world, u, v) {
         return 5;
     }
-    let mut rows = row_table::no_rows();
-    row_table::fill_rows(scheme, c, network, &mut rows);
+    let mut rows = [0; 1024];
+    row_table::fill_rows(world, &mut rows);
     clique::largest(&rows, u, v)
 }
 
 // The relation of members that are one or friends, the clique as far as it is asked: nothing is prepared for it.
-pub fn of_friends(
-    scheme: &[u8],
-    c: Summary,
-    network: &[u8],
-    u: usize,
-    v: usize,
-    clique: bool,
-) -> Relation
-    requires { Ready scheme.now c network.now × (u < c.members) × (v < c.members) × ((u ≡ v) ⊎ Friends (graph_of scheme.now network.now) u v) }
-    ensures { Related (graph_of scheme.now network.now) u v (λ k. 1 ≤ k) Unit (clique ≡ true) result }
+pub fn of_friends(world: &World<'_>, u: usize, v: usize, clique: bool) -> Relation
+    requires { (u < members_in world.now) × (v < members_in world.now) × ((u ≡ v) ⊎ Friends (graph_in world.now) u v) }
+    ensures { Related (graph_in world.now) u v (λ k. 1 ≤ k) Unit (clique ≡ true) result }
 {
     if u == v {
         return Relation {
-            distance: Distance::Friendships(0),
+            distance: Some(0),
             acquaintance: Acquaintance::Close,
             clique: 0,
         };
     }
     let size = if clique {
-        clique_of_friends(scheme, c, network, u, v)
+        clique_of_friends(world, u, v)
     } else {
         0
     };
     Relation {
-        distance: Distance::Friendships(1),
+        distance: Some(1),
         acquaintance: Acquaintance::Close,
         clique: size,
     }

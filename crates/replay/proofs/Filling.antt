@@ -15,10 +15,6 @@ use Rattle.fresh_start.specs.declared.Filled.{Filled}
 use Rattle.replay.specs.Fills.{Moment, unfilled, Goes, Steps, Fills, Continued}
 use Rattle.replay.proofs.Ranking.{rank, step_less}
 
-pub stepped_less : {b log net old net' after : List ℕ} {used : ℕ} {from : Stand} {to : Filled} → Stepped b log net old used from to net' after
-    → rank b log (state_of to.stand net') < rank b log (state_of from net)
-stepped_less {b} {log} {net} {old} {net'} {after} {used} {from} {to} s = step_less b log (state_of from net) (state_of to.stand net') s.line s.steps
-
 module _ (b log : List ℕ) where
   -- no step leads back to the start
   never_back : (s : State) (line : List ℕ) → Step b log s line start → ⊥

@@ -6,13 +6,13 @@ use mathlib.Core.Logic.{inl}
 use native.Mathlib.Omega.{arith}
 use native.Mathlib.Decide.{dec_lt}
 use lib.ListN.{length}
+use Rattle.std.specs.Prelude.{Ok}
 use Rattle.model.specs.Text.{start}
 use Rattle.model.proofs.Texts.{text_once}
 use Rattle.fresh_start.specs.Stands.{Stepped}
 use Rattle.fresh_start.specs.declared.Stand.{Stand}
 use Rattle.fresh_start.specs.declared.Filled.{Filled}
 use Rattle.fresh_start.proofs.Once.{stepped_once}
-use Rattle.replay.specs.declared.Outcome.TheVariants.{Whole}
 use Rattle.replay.specs.Fills.{Moment, unfilled, Goes, Steps, Fills, Printed}
 
 module _ (b log : List ℕ) where
@@ -62,7 +62,7 @@ module _ (b log : List ℕ) where
       let e : one ≡ other = stopped_once f.count g.count (unfilled from net old) one other f.steps f.stops g.steps g.stops in
       (λ i. (e i).filled, λ i. (e i).network, λ i. (e i).buffer)
 
-pub printed_once : (b log : List ℕ) (n n' : ℕ) → Printed b log (Whole n) → Printed b log (Whole n') → n ≡ n'
+pub printed_once : (b log : List ℕ) (n n' : ℕ) → Printed b log (Ok n) → Printed b log (Ok n') → n ≡ n'
 printed_once b log n n' (t, e, h) (t', e', h') =
     let same : t ≡ t' = text_once (b ++ []) (log ++ []) start t t' (h [] [] (inl refl) (inl refl)) (h' [] [] (inl refl) (inl refl)) in
     e ∙ ap length same ∙ sym e'

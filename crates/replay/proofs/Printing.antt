@@ -11,12 +11,11 @@ use Rattle.fresh_start.specs.Stands.{state_of, Sized, Ready}
 use Rattle.fresh_start.specs.declared.Stand.{Stand}
 use Rattle.fresh_start.specs.declared.Stand.TheVariants.{Start, At, Over}
 use Rattle.fresh_start.specs.declared.Filled.{Filled}
-use Rattle.replay.specs.declared.Outcome.{Outcome}
-use Rattle.replay.specs.declared.Outcome.TheVariants.{Whole, Cut}
-use Rattle.std.specs.Prelude.{Option}
+use Rattle.replay.specs.declared.Cut.{Cut}
+use Rattle.std.specs.Prelude.{Option, Ok, Err}
 use Rattle.std.specs.Io.KnownBytes.{Appends}
 use Rattle.std.proofs.KnownBytes.{Appends-nil, Appends-trans}
-use Rattle.replay.specs.Fills.{IsOver, Fills, Adds, Gives, Printed, Handed}
+use Rattle.replay.specs.Fills.{IsOver, Fills, Gives, Printed, Handed}
 use Rattle.replay.proofs.Ranking.{rank, prints_less}
 use Rattle.replay.proofs.Filling.{Filling, filling}
 
@@ -29,10 +28,6 @@ pub record Sent (before now : Option (List ℕ)) (b log net : List ℕ) (here : 
   pub given : Appends before now text
   pub sized : Sized here (length net)
   pub small : written + 65536 * rank b log (state_of here net) ≤ 65536 * 16387
-
-pub sent_none : {before : Option (List ℕ)} {b log net : List ℕ} → 39296 ≤ length net → Sent before before b log net Start 0
-sent_none {before} {b} {log} {net} h =
-    record { text = []; count = 0; prints = prints_none b log start; bytes = refl; given = Appends-nil before; sized = h; small = omega arith }
 
 -- until the end there is a next step
 go_on : (b log net : List ℕ) (here : Stand) (lent : ℕ) → (IsOver here → ⊥) → Sized here lent → Bounded b log (state_of here net) → Ready here lent
@@ -70,36 +65,20 @@ module _ {before now : Option (List ℕ)} {b log net old net' after : List ℕ} 
     }
 
   -- a write failed
-  pub sent_cut : (then : Option (List ℕ)) (outcome : Outcome) (count : ℕ) {cut : ℕ} {error : _} → outcome ≡ Cut cut error
-      → Adds written count outcome
-      → Gives now then (take to.used after) outcome
-      → Printed b log outcome × Handed before then b log outcome
-  sent_cut then outcome count {cut} {error} e a g =
-      let same : Adds written count (Cut cut error) = rw e at a in
-      let part : Gives now then (take to.used after) (Cut cut error) = rw e at g in
-      rw e (
-        (s.text, same ∙ s.bytes, s.count, state_of here net, s.prints),
-        (
-          s.text,
-          same ∙ s.bytes,
-          s.count,
-          state_of here net,
-          s.prints,
-          take to.used after,
-          f.count,
-          state_of to.stand net',
-          f.prints,
-          part.count,
-          Appends-trans before now then s.text (take part.count (take to.used after)) s.given part.appends,
-        ),
-      )
-
--- a write handed over all of its bytes
-pub whole : (outcome : Outcome) (before count : ℕ) {total : ℕ} → outcome ≡ Whole total → Adds before count outcome → total ≡ before + count
-whole outcome before count e a = rw e at a
-
-pub whole_given : (before after : Option (List ℕ)) (bytes : List ℕ) (outcome : Outcome) {total : ℕ} → outcome ≡ Whole total → Gives before after bytes outcome → Appends before after bytes
-whole_given before after bytes outcome e g = rw e at g
+  pub sent_cut : {then : Option (List ℕ)} (cut : Cut) → cut.written ≡ written → Gives now then (take to.used after) (Err cut) → Handed before then b log (Err cut)
+  sent_cut {then} cut same part = (
+    s.text,
+    same ∙ s.bytes,
+    s.count,
+    state_of here net,
+    s.prints,
+    take to.used after,
+    f.count,
+    state_of to.stand net',
+    f.prints,
+    part.count,
+    Appends-trans before now then s.text (take part.count (take to.used after)) s.given part.appends,
+  )
 
 ended : (b log net : List ℕ) (here : Stand) (count : ℕ) (text : List ℕ) → IsOver here → Prints b log count start text (state_of here net) → Prints b log count start text over
 ended b log net Start count text o p = absurd o
@@ -107,7 +86,7 @@ ended b log net (At place position size) count text o p = absurd o
 ended b log net Over count text o p = p
 
 pub all_sent : {before now : Option (List ℕ)} {b log net : List ℕ} {here : Stand} {written : ℕ} → Sent before now b log net here written → IsOver here
-    → Printed b log (Whole written) × Handed before now b log (Whole written)
+    → Printed b log (Ok written) × Handed before now b log (Ok written)
 all_sent {before} {now} {b} {log} {net} {here} {written} s o =
     let text : (more rest : List ℕ) → ReadOf 530 b more → ReadOf 16384 log rest → Text (b ++ more) (log ++ rest) s.text =
     λ more rest m r. whole_text b log more rest s.text m r (s.count, ended b log net here s.count s.text o s.prints) in

@@ -1,5 +1,5 @@
 -- Buffers filled with the log program's text, and what is written of them.
-use Rattle.std.specs.Prelude.{ℕ, zero, suc, ◌+◌, ◌≤◌, ◌≡◌, List, [], ◌++◌, length, take, Option}
+use Rattle.std.specs.Prelude.{ℕ, zero, suc, ◌+◌, ◌≤◌, ◌≡◌, List, [], ◌++◌, length, take, Option, Result, Ok, Err}
 use Rattle.std.specs.Io.KnownBytes.{Appends}
 use Rattle.files.specs.Transfers.{Given}
 use Rattle.model.specs.Text.{State, start, Prints, TextFrom, Text, ReadOf}
@@ -7,8 +7,7 @@ use Rattle.fresh_start.specs.Stands.{state_of, Ready, Stepped}
 use Rattle.fresh_start.specs.declared.Stand.{Stand}
 use Rattle.fresh_start.specs.declared.Stand.TheVariants.{Start, At, Over}
 use Rattle.fresh_start.specs.declared.Filled.{Filled}
-use Rattle.replay.specs.declared.Outcome.{Outcome}
-use Rattle.replay.specs.declared.Outcome.TheVariants.{Whole, Cut}
+use Rattle.replay.specs.declared.Cut.{Cut}
 
 abbrev pub IsOver : Stand → Type 0
 IsOver Start = ⊥
@@ -54,9 +53,9 @@ Continued =
     → (text ≡ take to.used after ++ rest) × (to.stand ≡ Over → rest ≡ [])
 
 -- a write hands over all of its bytes, or fails and adds none
-abbrev pub Adds : ℕ → ℕ → Outcome → Type 0
-Adds before count (Whole written) = written ≡ before + count
-Adds before count (Cut written error) = written ≡ before
+abbrev pub Adds : ℕ → ℕ → Result ℕ Cut → Type 0
+Adds before count (Ok written) = written ≡ before + count
+Adds before count (Err cut) = cut.written ≡ before
 
 -- the text of files of any length, of which this was read
 abbrev pub TextRead : List ℕ → List ℕ → List ℕ → Type 0
@@ -64,29 +63,29 @@ TextRead b log text = (more rest : List ℕ) → ReadOf 530 b more → ReadOf 16
 
 -- so many bytes were handed over to be written as the text has, of files of any length: where what was read is longer than every accepted
 -- scheme or log, it has the whole file's text; or, where a write failed, the bytes handed over before it are the text's first lines
-abbrev pub Printed : List ℕ → List ℕ → Outcome → Type 0
-Printed b log (Whole written) =
+abbrev pub Printed : List ℕ → List ℕ → Result ℕ Cut → Type 0
+Printed b log (Ok written) =
     (text : List ℕ)
     × (written ≡ length text)
     × TextRead b log text
-Printed b log (Cut written error) = (text : List ℕ) × (written ≡ length text) × (count : ℕ) × (reached : State) × Prints b log count start text reached
+Printed b log (Err cut) = (text : List ℕ) × (cut.written ≡ length text) × (count : ℕ) × (reached : State) × Prints b log count start text reached
 
 -- where the writer can tell what it was given: a write gave it all of the bytes, or failed and gave it a front of them
-abbrev pub Gives : Option (List ℕ) → Option (List ℕ) → List ℕ → Outcome → Type 0
-Gives before after bytes (Whole written) = Appends before after bytes
-Gives before after bytes (Cut written error) = Given before after bytes
+abbrev pub Gives : Option (List ℕ) → Option (List ℕ) → List ℕ → Result ℕ Cut → Type 0
+Gives before after bytes (Ok written) = Appends before after bytes
+Gives before after bytes (Err cut) = Given before after bytes
 
 -- where the writer can tell what it was given, that is the text, which has so many bytes; or, where a write failed, the text's first
 -- lines, which have so many bytes, and a front of the lines behind them
-abbrev pub Handed : Option (List ℕ) → Option (List ℕ) → List ℕ → List ℕ → Outcome → Type 0
-Handed before after b log (Whole written) =
+abbrev pub Handed : Option (List ℕ) → Option (List ℕ) → List ℕ → List ℕ → Result ℕ Cut → Type 0
+Handed before after b log (Ok written) =
     (text : List ℕ)
     × Appends before after text
     × (written ≡ length text)
     × TextRead b log text
-Handed before after b log (Cut written error) =
+Handed before after b log (Err cut) =
     (text : List ℕ)
-    × (written ≡ length text)
+    × (cut.written ≡ length text)
     × (count : ℕ)
     × (reached : State)
     × Prints b log count start text reached

@@ -8,14 +8,24 @@ ghost use Rattle.fresh_start.specs.Stands.{Ready};
 ghost use Rattle.replay.specs.Fills.{IsOver, Fills, Adds, Gives, Printed, Handed, Continued};
 
 use fresh_start::{Filled, Stand};
-use std::io::{Error, Write};
+use std::error::Error;
+use std::io::Write;
+use std::{fmt, io};
 
-// How the text was printed: whole, so many bytes; or cut, since a write failed after so many, and why.
-#[derive(Drop)]
-pub enum Outcome {
-    Whole(u64),
-    Cut(u64, Error),
+// The text was cut: a write failed, after so many bytes were handed over.
+#[derive(Debug, Drop)]
+pub struct Cut {
+    pub written: u64,
+    pub error: io::Error,
 }
+
+impl fmt::Display for Cut {
+    fn fmt<W: fmt::Write>(&self, f: &mut fmt::Formatter<W>) -> fmt::Result {
+        write!(f, "the output is cut: {}", self.error)
+    }
+}
+
+impl Error for Cut {}
 
 // Whether there is a next step, and room for it: so many bytes are lent for the network, and so many for the text.
 fn ready(here: Filled, network: usize, buffer: usize) -> bool
@@ -27,8 +37,7 @@ fn ready(here: Filled, network: usize, buffer: usize) -> bool
     if buffer - 1548 < here.used {
         return false;
     }
-    let stand = here.stand;
-    match stand {
+    match here.stand {
         Stand::Start => network >= 39296,
         Stand::At(_, position, size) => position < 65535 && size <= network,
         Stand::Over => false,
@@ -52,22 +61,18 @@ pub fn fill(scheme: &[u8], log: &[u8], network: &mut [u8], buffer: &mut [u8], fr
 fn over(here: Stand) -> bool
     ensures { Decides result (IsOver here) }
 {
-    match here {
-        Stand::Start => false,
-        Stand::At(_, _, _) => false,
-        Stand::Over => true,
-    }
+    here == Stand::Over
 }
 
 // Hands bytes over to be written, after so many.
-fn write<W: Write>(out: &mut W, bytes: &[u8], written: u64) -> Outcome
+fn write<W: Write>(out: &mut W, bytes: &[u8], written: u64) -> Result<u64, Cut>
     requires { written + length bytes.now ≤ 18446744073709551615 }
     ensures adds { Adds written (length bytes.now) result }
     ensures gives { Gives (W.contents out.old) (W.contents out.new) bytes.now result }
 {
     match files::write(out, bytes) {
-        Ok(()) => Outcome::Whole(written + bytes.len() as u64),
-        Err(error) => Outcome::Cut(written, error),
+        Ok(()) => Ok(written + bytes.len() as u64),
+        Err(error) => Err(Cut { written, error }),
     }
 }
 
@@ -78,7 +83,7 @@ fn print_by<W: Write>(
     log: &[u8],
     network: &mut [u8],
     buffer: &mut [u8],
-) -> Outcome
+) -> Result<u64, Cut>
     requires { (39296 ≤ length network.old) × (1548 ≤ length buffer.old) × (length buffer.old ≤ 65536) }
     ensures printed { Printed scheme.now log.now result }
     ensures handed { Handed (W.contents out.old) (W.contents out.new) scheme.now log.now result }
@@ -88,18 +93,14 @@ fn print_by<W: Write>(
     while !over(here) {
         let filled = fill(scheme, log, network, buffer, here);
         let used = filled.used;
-        let outcome = write(out, &buffer[..used], written);
-        let Outcome::Whole(total) = outcome else {
-            return outcome;
-        };
-        written = total;
+        written = write(out, &buffer[..used], written)?;
         here = filled.stand;
     }
-    Outcome::Whole(written)
+    Ok(written)
 }
 
 // Writes what the log program prints of these two files' bytes.
-pub fn print<W: Write>(out: &mut W, scheme: &[u8], log: &[u8]) -> Outcome
+pub fn print<W: Write>(out: &mut W, scheme: &[u8], log: &[u8]) -> Result<u64, Cut>
     ensures printed { Printed scheme.now log.now result }
     ensures handed { Handed (W.contents out.old) (W.contents out.new) scheme.now log.now result }
 {

@@ -1,5 +1,2 @@
-pub mod Unchanged
-pub mod FindAnswers
-pub mod ViewAnswers
-pub mod ListAnswers
+pub mod Answering
 pub mod Once

@@ -4,59 +4,48 @@
 
 ghost use Rattle.model.specs.Requests.{find as find_request, view as view_request, answered};
 ghost use Rattle.model.specs.Calls.{Called};
+ghost use Rattle.refusals.specs.Numbers.{answer_of};
 ghost use Rattle.requests.specs.Answered.{ListCalled};
 
-use scheme::Reading;
-
-// A list's answer: how many friends it wrote, or the refusal's number.
-#[derive(Clone, Copy)]
-pub enum Listed {
-    Friends(usize),
-    Refused(u8),
-}
+use refusals::Refusal;
 
 // Find: whether v finds u.
-pub fn find(scheme: &[u8], network: &[u8], v: usize, u: usize) -> u8
-    ensures { Called scheme.now network.now (answered (find_request v u) result) network.now }
+pub fn find(scheme: &[u8], network: &[u8], v: usize, u: usize) -> Result<(), Refusal>
+    ensures { Called scheme.now network.now (answered (find_request v u) (answer_of result)) network.now }
 {
-    let reading = opening::open(scheme, network, v, u);
-    let Reading::Accepted(c) = reading else {
-        return scheme::number(reading);
-    };
-    if !checks::found(scheme, c, network, v, u) {
-        return 9;
+    let world = opening::open(scheme, network, v, u)?;
+    if !checks::found(&world, v, u) {
+        return Err(Refusal::NotFound);
     }
-    0
+    Ok(())
 }
 
 // View: v asks for item o of u.
-pub fn view(scheme: &[u8], network: &[u8], v: usize, u: usize, o: usize) -> u8
-    ensures { Called scheme.now network.now (answered (view_request v u o) result) network.now }
+pub fn view(scheme: &[u8], network: &[u8], v: usize, u: usize, o: usize) -> Result<(), Refusal>
+    ensures { Called scheme.now network.now (answered (view_request v u o) (answer_of result)) network.now }
 {
-    let reading = opening::open(scheme, network, v, u);
-    let Reading::Accepted(c) = reading else {
-        return scheme::number(reading);
-    };
-    if o >= c.items {
-        return 7;
+    let world = opening::open(scheme, network, v, u)?;
+    let counts = world.scheme.counts;
+    if o >= counts.items {
+        return Err(Refusal::Resource);
     }
-    checks::judge(scheme, c, network, v, u, 2 + c.primitives + o, true)
+    checks::judge(&world, v, u, 2 + counts.primitives + o, Some(()))
 }
 
-// List: v asks for u's friends.
-pub fn list(scheme: &[u8], network: &[u8], v: usize, u: usize, output: &mut [u16]) -> Listed
+// List: v asks for u's friends. A grant says how many it wrote.
+pub fn list(
+    scheme: &[u8],
+    network: &[u8],
+    v: usize,
+    u: usize,
+    output: &mut [u16],
+) -> Result<usize, Refusal>
     ensures { ListCalled scheme.now network.now v u output.old result output.new }
 {
-    let reading = opening::open(scheme, network, v, u);
-    let Reading::Accepted(c) = reading else {
-        return Listed::Refused(scheme::number(reading));
-    };
-    if output.len() < c.members {
-        return Listed::Refused(13);
+    let world = opening::open(scheme, network, v, u)?;
+    if output.len() < world.members() {
+        return Err(Refusal::Output);
     }
-    let answer = checks::judge(scheme, c, network, v, u, 1, true);
-    if answer != 0 {
-        return Listed::Refused(answer);
-    }
-    Listed::Friends(friend_list::write(scheme, c, network, u, output))
+    checks::judge(&world, v, u, 1, Some(()))?;
+    Ok(friend_list::write(&world, u, output))
 }

@@ -10,26 +10,24 @@ use native.Mathlib.Omega.{arith}
 use native.Mathlib.Decide.{dec_lt}
 use borrow.Author.Count.{below_more}
 use lib.Bits.{bit_or}
-use lib.ListN.{get_or}
+use lib.ListN.{length, get_or}
+use Rattle.std.specs.Prelude.{slice_range}
 use Rattle.model.specs.Bytes.{digit, bit}
 use Rattle.model.specs.Graph.{Graph}
 use Rattle.model.proofs.Bits.{digit_of_zero, bit_no}
 use Rattle.model.proofs.Places.{pairs_suc}
-use Rattle.model.proofs.Sets.{Added, added, left_out, none_in_zero}
+use Rattle.model.proofs.Sets.{Added, added, left_out}
 use Rattle.model.specs.Network.{pairs}
 use Rattle.model.specs.SchemeBytes.{n as members}
-use Rattle.tables.specs.declared.Summary.{Summary}
+use Rattle.tables.specs.declared.counts.Summary.{Summary}
 use Rattle.network.specs.Ready.{Ready, graph_of}
 use Rattle.friend_flags.specs.Flags.{Flagged, Packed}
-use Rattle.friend_flags.proofs.Friendships.{flag_bit, flag_small, own_flagged}
+use Rattle.friend_flags.proofs.Friendships.{flag_bit, flag_small, own_flagged, kept_behind}
 use Rattle.sets.specs.Rows.{row_bit, FriendRow}
 use Rattle.rows.specs.Words.{FirstBits}
 use Rattle.network.proofs.Reading.{friends_byte, friends_outside}
 
 -- ---- a word, bit by bit
-
-pub first_none : (g : Graph) (u from : ℕ) → FirstBits g u from 0 0
-first_none g u from = record { bits = λ m h. absurd (omega arith); none_above = none_in_zero 0 }
 
 first_next : {g : Graph} {u from n word word' : ℕ} → FirstBits g u from n word → Added word n (g.friends u (from + n)) word' → FirstBits g u from (n + 1) word'
 first_next {g} {u} {from} {n} {word} {word'} f a = record {
@@ -88,13 +86,13 @@ first_all b net u from n word l out f = record { bits = λ k h. go k h (dec_lt k
 module _ {b net : List ℕ} {c : Summary} (ready : Ready b c net) {u at : ℕ} (from end : ℕ) (member : u < c.members) (below : from + end ≤ u) (e : at ≡ pairs u + from)
     {flags flags' : List ℕ}
     (none : (k : ℕ) → get_or flags k 0 ≡ 0)
-    (f : Flagged net c.marks at end flags flags') where
+    (f : Flagged (slice_range net at (at + end)) c.marks 0 (length (slice_range net at (at + end))) flags flags') where
   pub flags_small : (k : ℕ) → get_or flags' k 0 ≤ 1
   flags_small k = go (dec_lt k end)
     where
       go : Dec (k < end) → get_or flags' k 0 ≤ 1
       go (yes l) = rw (own_flagged ready from end member below e f k l) (flag_small ((graph_of b net).friends u (from + k)))
-      go (no l) = omega (arith, f.kept k (omega arith), none k)
+      go (no l) = omega (arith, kept_behind ready from end member below e f k (omega arith), none k)
 
   pub first_flags : (word : ℕ) → end ≤ 64 → Packed flags' 0 64 word → FirstBits (graph_of b net) u from end word
   first_flags word l p = record { bits = bits; none_above = λ k h. above k h (dec_lt k 64) }
@@ -106,7 +104,7 @@ module _ {b net : List ℕ} {c : Summary} (ready : Ready b c net) {u at : ℕ} (
       bits k h = flag_bit word k ((graph_of b net).friends u (from + k)) (digits k (omega arith) ∙ own_flagged ready from end member below e f k h)
 
       above : (k : ℕ) → end ≤ k → Dec (k < 64) → bit word k ≡ false
-      above k h (yes s) = flag_bit word k false (digits k s ∙ f.kept k h ∙ none k)
+      above k h (yes s) = flag_bit word k false (digits k s ∙ kept_behind ready from end member below e f k h ∙ none k)
       above k h (no s) = p.none_above k (omega arith)
 
 -- ---- a row, word by word

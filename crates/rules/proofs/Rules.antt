@@ -1,17 +1,17 @@
 -- What the bytes of a policy that fits are, by its kind.
-use Prim.Native.Nat.{ℕ, zero, suc, ◌+◌, ◌-◌, ◌*◌, ◌≤◌, ◌<◌}
+use Prim.Native.Nat.{ℕ, zero, suc, ◌+◌, ◌*◌, ◌≤◌, ◌<◌}
 use mathlib.Core.Path.{◌≡◌, refl, sym, ap, ◌∙◌}
 use mathlib.Core.List.{List}
 use mathlib.Core.Logic.{inl, inr}
 use native.Mathlib.Nat.{add-zero}
 use native.Mathlib.Omega.{arith}
-use Rattle.model.specs.Bytes.{byte, NoBitFrom}
-use Rattle.model.specs.Policies.{Policy, no_one, within}
+use Rattle.model.specs.Bytes.{byte}
+use Rattle.model.specs.Policies.{Policy, within}
 use Rattle.model.specs.SchemeBytes.{S, at4, field, policy_of, PolicyFits, scheme_of}
 use Rattle.model.proofs.Decoding.{policy_at}
 use Rattle.tables.specs.Read.{ReadAs}
 use Rattle.rules.specs.Rules.{kind_of, RuleOf, RuleAt}
-use Rattle.tables.specs.declared.Summary.{Summary}
+use Rattle.tables.specs.declared.counts.Summary.{Summary}
 use Rattle.rules.specs.declared.Rule.{Rule}
 
 pub record ByKind (p kind k left right : ℕ) : Type 0 where
@@ -28,17 +28,6 @@ module _ (S p kind k left right : ℕ) where
   by_kind (inr (inr (inl h))) = omega arith
   by_kind (inr (inr (inr (inl h)))) = omega arith
   by_kind (inr (inr (inr (inr h)))) = omega arith
-
-  pub by_state : PolicyFits S p kind k left right → kind ≡ 6 → (k ≤ 2) × NoBitFrom S (left + 256 * right)
-  by_state (inl h) e = absurd (omega arith)
-  by_state (inr (inl h)) e = absurd (omega arith)
-  by_state (inr (inr (inl h))) e = absurd (omega arith)
-  by_state (inr (inr (inr (inl h)))) e = (h.1, h.2)
-  by_state (inr (inr (inr (inr h)))) e = absurd (omega arith)
-
--- a kind above 8 admits no one
-pub beyond : (lower : ℕ → Policy) (kind k left right : ℕ) → 9 ≤ kind → policy_of lower kind k left right ≡ no_one
-beyond lower kind k left right h = let e : kind ≡ suc (suc (suc (suc (suc (suc (suc (suc (suc (kind - 9))))))))) = omega arith in rw e refl
 
 -- the rule of the bytes where policy p stands is policy p
 pub rule_at : (b : List ℕ) (c : Summary) (p at : ℕ) (rule : Rule) → ReadAs b c → p < c.policies → at ≡ at4 b + 4 + p * 4
@@ -63,15 +52,6 @@ kind_of_lem lower (suc (suc (suc (suc (suc (suc zero)))))) k left right h = refl
 kind_of_lem lower (suc (suc (suc (suc (suc (suc (suc zero))))))) k left right h = refl
 kind_of_lem lower (suc (suc (suc (suc (suc (suc (suc (suc zero)))))))) k left right h = refl
 kind_of_lem lower (suc (suc (suc (suc (suc (suc (suc (suc (suc n))))))))) k left right h = absurd (omega arith)
-
-pub kind_at : (b : List ℕ) (c : Summary) (p at : ℕ) → ReadAs b c → p < c.policies → at ≡ at4 b + 4 + p * 4 → byte b at ≡ kind_of ((scheme_of b).policy p)
-kind_at b c p at g l e =
-    let fit = g.bytes.policies p (omega (arith, g.counts.policies)) in
-    let known = (by_kind (S b) p (field b p 0) (field b p 1) (field b p 2) (field b p 3) fit).known in
-    let same : byte b at ≡ field b p 0 = ap (byte b) (e ∙ sym (add-zero (at4 b + 4 + p * 4))) in
-    same
-    ∙ sym (kind_of_lem (scheme_of b).policy (field b p 0) (field b p 1) (field b p 2) (field b p 3) known)
-    ∙ ap kind_of (sym (policy_at b p (omega (arith, g.counts.policies)) fit))
 
 same_k : (j k : ℕ) → within j ≡ within k → j ≡ k
 same_k j k e = cc

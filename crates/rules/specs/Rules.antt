@@ -1,9 +1,18 @@
 -- Policies as the code has them.
 use Rattle.std.specs.Prelude.{ℕ, ◌≤◌, ◌<◌, ◌≡◌, List}
 use Rattle.model.specs.Policies.{Policy, no_one, everyone, owner_only, within, known, clique, state, both, either}
-use Rattle.model.specs.SchemeBytes.{side_of, policy_of, PolicyFits, scheme_of}
+use Rattle.model.specs.SchemeBytes.{policy_of, PolicyFits, scheme_of}
+use Rattle.model.specs.Policies.{Side, any_side, owner_lesser, owner_greater}
+use Rattle.rules.specs.declared.Side.{Side as OnSide}
+use Rattle.rules.specs.declared.Side.TheVariants.{Any, OwnerLesser, OwnerGreater}
 use Rattle.rules.specs.declared.Rule.{Rule}
 use Rattle.rules.specs.declared.Rule.TheVariants.{NoOne, Everyone, Owner, Within, Known, Clique, State, Both, Either}
+
+-- document 01's side
+abbrev pub side_named : OnSide → Side
+side_named Any = any_side
+side_named OwnerLesser = owner_lesser
+side_named OwnerGreater = owner_greater
 
 -- the policy that a rule stands for, its operands looked up by their numbers
 abbrev pub policy_of_rule : (ℕ → Policy) → Rule → Policy
@@ -13,7 +22,7 @@ policy_of_rule lower Owner = owner_only
 policy_of_rule lower (Within k) = within k
 policy_of_rule lower (Known k) = known k
 policy_of_rule lower (Clique k) = clique k
-policy_of_rule lower (State set k) = state set (side_of k)
+policy_of_rule lower (State set side) = state set (side_named side)
 policy_of_rule lower (Both left right) = both (lower left) (lower right)
 policy_of_rule lower (Either left right) = either (lower left) (lower right)
 
@@ -37,7 +46,7 @@ RuleFits p Owner = Unit {0}
 RuleFits p (Within k) = 1 ≤ k
 RuleFits p (Known k) = 1 ≤ k
 RuleFits p (Clique k) = (2 ≤ k) × (k ≤ 5)
-RuleFits p (State set k) = k ≤ 2
+RuleFits p (State set side) = Unit {0}
 RuleFits p (Both left right) = (left < p) × (right < p)
 RuleFits p (Either left right) = (left < p) × (right < p)
 

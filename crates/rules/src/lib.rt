@@ -3,14 +3,21 @@
 #![tactic(auto)]
 
 ghost use Rattle.std.specs.Prelude.{◌≡◌, ◌<◌};
-ghost use Rattle.model.specs.SchemeBytes.{scheme_of};
-ghost use Rattle.tables.specs.Read.{ReadAs};
-ghost use Rattle.rules.specs.Rules.{kind_of, RuleOf, RuleAt};
+ghost use Rattle.model.specs.SchemeBytes.{side_of};
+ghost use Rattle.rules.specs.Rules.{side_named, RuleOf, RuleAt};
 
-use tables::Summary;
+use tables::Scheme;
+
+// On which side of the owner the accessor is.
+#[derive(Clone, Copy, Debug, PartialEq, Eq)]
+pub enum Side {
+    Any,
+    OwnerLesser,
+    OwnerGreater,
+}
 
 // A policy, by its kind.
-#[derive(Clone, Copy)]
+#[derive(Clone, Copy, Debug, PartialEq, Eq)]
 pub enum Rule {
     NoOne,
     Everyone,
@@ -18,51 +25,48 @@ pub enum Rule {
     Within(u8),
     Known(u8),
     Clique(u8),
-    State { set: u16, side: u8 },
+    State { set: u16, side: Side },
     Both { left: u8, right: u8 },
     Either { left: u8, right: u8 },
 }
 
-// The rule of a policy's four bytes. No scheme that passes the check has a kind above 8.
+// The side that a state policy's k names.
+fn wanted_side(k: u8) -> Side
+    ensures { side_named result ≡ side_of k }
+{
+    match k {
+        1 => Side::OwnerLesser,
+        2 => Side::OwnerGreater,
+        _ => Side::Any,
+    }
+}
+
+// The rule of a policy's four bytes. No scheme that passes the check has a kind above 8, and no state policy a k above 2.
 fn decode(kind: u8, k: u8, left: u8, right: u8) -> Rule
     ensures { RuleOf kind k left right result }
 {
     match kind {
-        0 => Rule::NoOne,
         1 => Rule::Everyone,
         2 => Rule::Owner,
         3 => Rule::Within(k),
         4 => Rule::Known(k),
         5 => Rule::Clique(k),
         6 => Rule::State {
-            set: (left as u16) + 256 * (right as u16),
-            side: k,
+            set: u16::from_le_bytes([left, right]),
+            side: wanted_side(k),
         },
-        7 => Rule::Both {
-            left: left,
-            right: right,
-        },
-        8 => Rule::Either {
-            left: left,
-            right: right,
-        },
+        7 => Rule::Both { left, right },
+        8 => Rule::Either { left, right },
         _ => Rule::NoOne,
     }
 }
 
-// The number of policy p's kind.
-pub fn kind(s: &[u8], c: Summary, p: usize) -> u8
-    requires { ReadAs s.now c × (p < c.policies) }
-    ensures { result ≡ kind_of ((scheme_of s.now).policy p) }
-{
-    s[tables::policies_at(c) + p * 4]
-}
-
 // Policy p.
-pub fn policy(s: &[u8], c: Summary, p: usize) -> Rule
-    requires { ReadAs s.now c × (p < c.policies) }
-    ensures { RuleAt s.now p result }
+pub fn policy(scheme: &Scheme<'_>, p: usize) -> Rule
+    requires { p < scheme.now.counts.policies }
+    ensures { RuleAt scheme.now.bytes.now p result }
 {
-    let at = tables::policies_at(c) + p * 4;
-    decode(s[at], s[at + 1], s[at + 2], s[at + 3])
+    let at = scheme.counts.policies_at() + p * 4;
+    let bytes = scheme.bytes;
+    decode(bytes[at], bytes[at + 1], bytes[at + 2], bytes[at + 3])
 }

@@ -1,17 +1,19 @@
 -- What the scheme check answers.
-use Rattle.std.specs.Prelude.{ℕ, ◌≤◌, List}
+use Rattle.std.specs.Prelude.{ℕ, ◌≡◌, List, Result, Ok, Err}
 use Rattle.model.specs.Answers.{Answers}
-use Rattle.model.specs.SchemeBytes.{scheme_needs}
+use Rattle.model.specs.SchemeBytes.{scheme_needs, Accepted}
+use Rattle.refusals.specs.Numbers.{number}
+use Rattle.refusals.specs.declared.Refusal.{Refusal}
 use Rattle.tables.specs.Read.{CountsOf, MarksOf}
-use Rattle.scheme.specs.declared.Reading.{Reading}
-use Rattle.scheme.specs.declared.Reading.TheVariants.{Accepted, Refused}
+use Rattle.tables.specs.declared.reading.Scheme.{Scheme}
 
--- the answer is document 01's: what is read once of an accepted scheme, or the number of the first refusal that applies
-abbrev pub Checked : List ℕ → Reading → Type 0
-Checked b (Accepted c) = Answers (scheme_needs b) 0 × CountsOf b c × MarksOf b c.states c.marks
-Checked b (Refused number) = Answers (scheme_needs b) number × (1 ≤ number)
+-- what is read once of an accepted scheme
+pub record ReadOf (b : List ℕ) (s : Scheme) : Type 0 where
+  pub same : s.bytes.now ≡ b
+  pub counts : CountsOf b s.counts
+  pub marks : MarksOf b s.counts.states s.counts.marks
 
--- the number that a call gives back for a scheme that was not accepted; 0 where it was
-abbrev pub number_of : Reading → ℕ
-number_of (Accepted c) = 0
-number_of (Refused number) = number
+-- the answer is document 01's: what is read once of an accepted scheme, or the first refusal that applies
+abbrev pub Checked : List ℕ → Result Scheme Refusal → Type 0
+Checked b (Ok s) = Accepted b × ReadOf b s
+Checked b (Err refusal) = Answers (scheme_needs b) (number refusal)

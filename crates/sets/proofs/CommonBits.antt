@@ -1,8 +1,8 @@
 -- The common bits of two rows.
 use Prim.Native.Nat.{ℕ, zero, suc, ◌+◌, ◌*◌, ◌%◌, ◌^◌, ◌≤◌, ◌<◌}
-use mathlib.Core.Path.{◌≡◌, refl, sym, ap, ap₂, ◌∙◌}
+use mathlib.Core.Path.{◌≡◌, refl, sym, ap, ap₂, ◌∙◌, subst}
 use mathlib.Core.Bool.{Bool, ◌&&◌}
-use mathlib.Core.List.{List}
+use mathlib.Core.List.{List, [], ◌∷◌, map}
 use native.Mathlib.Nat.{zero-add, mod-lt, mod-one, mod-eq_of_lt, add_comm, not-suc-le-zero, le_of_suc-le-suc}
 use native.Mathlib.Numerals.{one-add}
 use native.Mathlib.Omega.{arith}
@@ -10,15 +10,16 @@ use lib.Arith.{digits_div, digits_mod}
 use lib.Bits.{bit_and, and_lt}
 use lib.Count.{ones, ones_cat}
 use lib.Dec.{eqb}
-use lib.ListN.{get_or}
+use lib.ListN.{length, get_or}
 use lib.Pow.{pow_pos, mod-pow-add}
+use Rattle.std.specs.List.{sum, zip}
 use Rattle.model.specs.Bytes.{digit, bit}
 use Rattle.model.specs.Graph.{Graph, one, count, shared}
 use Rattle.model.proofs.Bits.{digit_lt, bit_and_lem}
-use Rattle.model.proofs.Counting.{count_ext, count_split, count_above}
-use Rattle.model.specs.SchemeBytes.{n as members}
+use Rattle.model.proofs.Counting.{count_ext, count_split, count_above, count_le}
 use Rattle.sets.specs.Rows.{row_bit, FriendRow}
 use Rattle.sets.specs.Sets.{CommonBits}
+use Rattle.sets.proofs.Words.{four_words}
 
 -- ---- the common bits of two words
 
@@ -46,6 +47,10 @@ ones_common x y hx hy =
     ∙ ones_count (bit_and x y) 64
     ∙ count_ext (bit (bit_and x y)) (λ (m : ℕ). bit x m && bit y m) 64
     (λ m h. bit_and_lem x y m)
+
+-- how many bits two words have in common
+abbrev pub in_common : ℕ × ℕ → ℕ
+in_common p = count (λ m. bit p.0 m && bit p.1 m) 64
 
 -- ---- the common bits of two rows
 
@@ -84,3 +89,17 @@ module _ (a b : List ℕ) where
       let e : r₀ + r₁ + r₂ + r₃ ≡ count both 256 =
       turn 3 (r₀ + r₁ + r₂) r₃ (turn 2 (r₀ + r₁) r₂ (turn 1 r₀ r₁ (first r₀ e₀) e₁) e₂) e₃ in
       record { counted = e; shares = λ g u v h p q. e ∙ shares g u v h p q }
+
+of_four : (P : List ℕ → Type 0) → ((w x y z : ℕ) → P (w ∷ x ∷ y ∷ z ∷ [])) → (xs : List ℕ) → length xs ≡ 4 → P xs
+of_four P p xs e = subst P (four_words xs e) (p _ _ _ _)
+
+-- `a.iter().zip(&b).map(..).sum()`
+pub words_common : (a b : List ℕ) → length a ≡ 4 → length b ≡ 4 → CommonBits a b (sum (map in_common (zip a b)))
+words_common a b d e =
+    of_four (λ xs. CommonBits xs b (sum (map in_common (zip xs b))))
+    (λ a₀ a₁ a₂ a₃. of_four (λ ys. CommonBits (a₀ ∷ a₁ ∷ a₂ ∷ a₃ ∷ []) ys (sum (map in_common (zip (a₀ ∷ a₁ ∷ a₂ ∷ a₃ ∷ []) ys))))
+    (λ b₀ b₁ b₂ b₃. rw (zero-add (in_common (a₀, b₀))) (common_bits (a₀ ∷ a₁ ∷ a₂ ∷ a₃ ∷ []) (b₀ ∷ b₁ ∷ b₂ ∷ b₃ ∷ []) _ _ _ _ refl refl refl refl)) b e)
+    a d
+
+pub few_common : (a b : List ℕ) → length a ≡ 4 → length b ≡ 4 → sum (map in_common (zip a b)) < 2 ^ 32
+few_common a b d e = let h = (words_common a b d e).counted in omega (arith, h, count_le (λ (m : ℕ). row_bit a m && row_bit b m) 256)

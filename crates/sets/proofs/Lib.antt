@@ -1,2 +1,3 @@
 pub mod CommonBits
 pub mod Words
+pub mod Tables

@@ -1,5 +1,5 @@
 -- Operations on sets of members as rows of 256 bits.
-use Rattle.std.specs.Prelude.{ℕ, ◌+◌, ◌%◌, ◌≤◌, ◌<◌, ◌≡◌, Bool, true, false, ◌&&◌, ◌||◌, List, ◌↔◌, length}
+use Rattle.std.specs.Prelude.{ℕ, ◌+◌, ◌%◌, ◌≤◌, ◌<◌, ◌≡◌, Bool, true, false, ◌&&◌, ◌||◌, List, Option, None, Some, ◌↔◌, length}
 use Rattle.model.specs.Bytes.{bit}
 use Rattle.model.specs.Graph.{Graph, count, shared}
 use Rattle.sets.specs.Rows.{row_bit, row_of, FriendRow}
@@ -32,6 +32,11 @@ pub record FirstFrom (set : List ℕ) (from r : ℕ) : Type 0 where
   pub later : from ≤ 256 → from ≤ r
   pub here : r < 256 → Has set r
   pub none : (m : ℕ) → from ≤ m → m < r → row_bit set m ≡ false
+
+-- the set's first member at or above from, if there is one
+abbrev pub FirstMember : List ℕ → ℕ → Option ℕ → Type 0
+FirstMember set from (Some r) = FirstFrom set from r × (r < 256)
+FirstMember set from None = FirstFrom set from 256
 
 -- whether the set has a member
 pub record NotEmpty (set : List ℕ) (answer : Bool) : Type 0 where

@@ -6,12 +6,10 @@ use std::io;
 use std::rt::Files;
 
 // Prints a file's name, and 1 if it holds these bytes, else 0. A file that cannot be read counts as empty.
-fn print_same(rt: &(impl Files + Print), name: &[u8], bytes: &[u8]) -> io::Result<()> {
+fn print_same(rt: &(impl Files + Print), name: &str, bytes: &[u8]) -> io::Result<()> {
     let mut buffer = [0u8; 4096];
-    let count = files::read(rt, name, &mut buffer);
-    printing::text(rt, name)?;
-    printing::next(rt, if &buffer[..count] == bytes { 1 } else { 0 })?;
-    printing::end(rt)
+    let count = files::read(rt, name.as_bytes(), &mut buffer);
+    println!(rt; "{name} {}", u8::from(&buffer[..count] == bytes))
 }
 
 fn main(rt: HostRuntime) -> io::Result<()> {
@@ -19,6 +17,6 @@ fn main(rt: HostRuntime) -> io::Result<()> {
     let mut session = [0u8; 139];
     standard::scheme(4, &mut scheme);
     standard::session(&mut session);
-    print_same(&rt, b"scheme", &scheme)?;
-    print_same(&rt, b"requests", &session)
+    print_same(&rt, "scheme", &scheme)?;
+    print_same(&rt, "requests", &session)
 }

@@ -1,2 +1,2 @@
 pub mod OneStored
-mod StartsMarked
+pub mod StartsMarked

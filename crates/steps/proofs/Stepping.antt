@@ -1,33 +1,37 @@
 -- The steps of the log program.
-use Prim.Native.Nat.{ℕ, ◌+◌, ◌≤◌, ◌<◌}
-use mathlib.Core.Path.{◌≡◌, refl, ◌∙◌, ap}
-use mathlib.Core.List.{List, [], ◌++◌}
-use mathlib.Core.Logic.{inl, inr}
+use Prim.Native.Nat.{ℕ, ◌+◌}
+use mathlib.Core.Path.{◌≡◌, refl, ◌∙◌}
+use mathlib.Core.List.{List, ◌++◌}
 use native.Mathlib.Omega.{arith}
-use lib.ListN.{length, take, drop, length-append, take-append-drop}
+use lib.ListN.{length, take, drop, length-append}
 use lib.Seq.{take_at, drop_at}
+use Rattle.std.specs.Prelude.{Some, Result, Ok, Err}
+use Rattle.std.specs.Result.{result_unwrap_or}
 use Rattle.model.specs.Text.{line_of}
 use Rattle.lines.specs.Put.{Put}
-use Rattle.lines.proofs.Putting.{put_none}
-use Rattle.record_call.specs.Lined.{Lined}
-use Rattle.record_call.specs.declared.Line.{Line}
-use Rattle.record_call.specs.declared.Line.TheVariants.{Next, Last, End}
-use Rattle.fresh_start.specs.Stands.{Ready, Stepped}
-use Rattle.fresh_start.specs.declared.Stand.{Stand}
-use Rattle.fresh_start.specs.declared.Filled.{Filled}
-use Rattle.fresh_start.specs.declared.Stand.TheVariants.{Start as AtStart, At, Over}
+use Rattle.refusals.specs.Numbers.{answer_of, count_of}
+use Rattle.refusals.specs.declared.Refusal.{Refusal}
+use Rattle.record_call.specs.Lined.{LineOf}
+use Rattle.fresh_start.specs.Stands.{Stepped}
+use Rattle.fresh_start.specs.declared.Stand.TheVariants.{At}
+
+-- a refusal counts nothing
+pub counted : (a : Result ℕ Refusal) → result_unwrap_or a 0 ≡ count_of a
+counted (Ok n) = refl
+counted (Err r) = refl
 
 module _ (b log net old : List ℕ) (used : ℕ) where
   -- the step of a record
-  module _ (place position count : ℕ) (out : List ℕ) (line : Line) (part left : List ℕ) (lent : 256 ≡ length out) (h : Lined b log place (take count net) out line part left) where
-    pub step_next : (answer many following end : ℕ) (after : List ℕ) → line ≡ Next answer many following → length part ≡ count
+  module _ (place position size : ℕ) (out part left : List ℕ) (a : Result ℕ Refusal) (following : ℕ) (lent : 256 ≡ length out) (h : LineOf b log place (take size net) out a (Some following) part left) where
+    pub step_next : (answer many end : ℕ) (after : List ℕ) → answer ≡ answer_of a → many ≡ count_of a → length part ≡ size
         → Put old used (line_of position answer (take many left)) end after
-        → Stepped b log net old used (At place position count) (record { stand = At following (position + 1) count; used = end }) (part ++ drop count net) after
-    step_next answer many following end after e size p =
-        let (q, n, m, l) : Lined b log place (take count net) out (Next answer many following) part left = rw e at h in
+        → Stepped b log net old used (At place position size) (record { stand = At following (position + 1) size; used = end }) (part ++ drop size net) after
+    step_next answer many end after e f long p =
+        let (q, n, m, l) = h in
+        let put : Put old used (line_of position (answer_of a) (take (count_of a) left)) end after = rw (e, f) at p in
         record {
-          line = line_of position answer (take many left);
-          steps = rw (take_at part (drop count net) count size) (record { request = q; answer = answer; written = take many left }, rw (← lent) at n, l.called, refl, m, refl);
-          put = p;
-          only = record { within = omega (arith, size, length-append part (drop count net)); behind = drop_at part (drop count net) count size };
+          line = line_of position (answer_of a) (take (count_of a) left);
+          steps = rw (take_at part (drop size net) size long) (record { request = q; answer = answer_of a; written = take (count_of a) left }, rw (← lent) at n, l.called, refl, m, refl);
+          put = put;
+          only = record { within = omega (arith, long, length-append part (drop size net)); behind = drop_at part (drop size net) size long };
         }

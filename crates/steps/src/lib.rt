@@ -2,18 +2,10 @@
 
 #![tactic(auto)]
 
-ghost use Rattle.std.specs.Prelude.{◌≡◌, ◌+◌, ◌<◌, ◌≤◌, length};
+ghost use Rattle.std.specs.Prelude.{◌+◌, ◌<◌, ◌≤◌, length};
 ghost use Rattle.fresh_start.specs.Stands.{Ready, Stepped};
 
 use fresh_start::{Filled, Stand};
-use record_call::Line;
-
-// The output of a list, for the most members.
-fn places() -> [u16; 256]
-    ensures { 256 ≡ length result }
-{
-    [0; 256]
-}
 
 // The step of the record at a place.
 fn run_record(
@@ -29,22 +21,26 @@ fn run_record(
     requires { (position < 65535) × (size ≤ length network.old) × (used + 1548 ≤ length buffer.old) }
     ensures { Stepped scheme.now log.now network.old buffer.old used (Stand.At place position size) result network.new buffer.new }
 {
-    let mut output = places();
-    let line = record_call::play(scheme, log, place, &mut network[..size], &mut output);
-    match line {
-        Line::Next(answer, count, following) => Filled {
-            stand: Stand::At(following, position + 1, size),
-            used: lines::put_line(position, answer, &output[..count], buffer, used),
-        },
-        Line::Last => Filled {
+    let mut output = [0u16; 256];
+    let Some(line) = record_call::play(scheme, log, place, &mut network[..size], &mut output) else {
+        return Filled {
             stand: Stand::Over,
-            used: lines::put_line(position, 14, &[], buffer, used),
-        },
-        Line::End => Filled {
-            stand: Stand::Over,
-            used: used,
-        },
-    }
+            used,
+        };
+    };
+    let count = line.answer.unwrap_or(0);
+    let end = lines::put_line(
+        position,
+        refusals::answer(line.answer),
+        &output[..count],
+        buffer,
+        used,
+    );
+    let stand = match line.next {
+        Some(following) => Stand::At(following, position + 1, size),
+        None => Stand::Over,
+    };
+    Filled { stand, used: end }
 }
 
 // One step, where there is room for every line.
@@ -58,8 +54,7 @@ pub fn step(
     requires { Ready from.stand (length network.old) × (from.used + 1548 ≤ length buffer.old) }
     ensures { Stepped scheme.now log.now network.old buffer.old from.used from.stand result network.new buffer.new }
 {
-    let stand = from.stand;
-    match stand {
+    match from.stand {
         Stand::Start => fresh_start::first(scheme, log, network, buffer, from.used),
         Stand::At(place, position, size) => run_record(
             scheme, log, place, position, size, network, buffer, from.used,

@@ -1,5 +1,5 @@
 -- What a policy admits among strangers.
-use Prim.Native.Nat.{ℕ, zero, suc, ◌+◌, ◌*◌, ◌^◌, ◌≤◌, ◌<◌, zero-le}
+use Prim.Native.Nat.{ℕ, zero, suc, ◌+◌, ◌^◌, ◌≤◌, ◌<◌, zero-le}
 use mathlib.Core.Path.{◌≡◌, refl, sym, ◌∙◌}
 use mathlib.Core.Bool.{Bool, true, false, cond, not, false≢true}
 use mathlib.Core.List.{List, [], ◌∷◌}
@@ -23,21 +23,16 @@ use Rattle.model.proofs.Counting.{count_above}
 use Rattle.model.proofs.Deciding.{Says, says, is_so, iff, conj, disj}
 use Rattle.rules.specs.declared.Rule.{Rule}
 use Rattle.rules.specs.declared.Rule.TheVariants.{NoOne, Everyone, Owner, Within, Known, Clique as CliqueRule, State, Both, Either}
-use Rattle.rules.specs.Rules.{policy_of_rule, RuleFits}
+use Rattle.rules.specs.declared.Side.{Side}
+use Rattle.rules.specs.declared.Side.TheVariants.{Any, OwnerLesser, OwnerGreater}
+use Rattle.rules.specs.Rules.{policy_of_rule, side_named, RuleFits}
 use Rattle.strangers.specs.Strangers.{SidesOf, SidesBelow}
 
--- the sides that a state policy's k names
-abbrev pub sides_for : ℕ → ℕ
-sides_for zero = 6
-sides_for (suc k) = 2 * suc k
-
-pub sides_for_lem : (k : ℕ) → (k ≡ 0 → ⊥) → sides_for k ≡ 2 * k
-sides_for_lem zero n = absurd (n refl)
-sides_for_lem (suc k) n = refl
-
--- what is known of a rule's fields, where the code found the rule
-pub fits_at : (p : ℕ) {rule found : Rule} → rule ≡ found → RuleFits p rule → RuleFits p found
-fits_at p e f = rw e at f
+-- the sides that a state policy names
+abbrev pub sides_for : Side → ℕ
+sides_for Any = 6
+sides_for OwnerLesser = 2
+sides_for OwnerGreater = 4
 
 -- the sides of a rule, where the list has those of the policies of lower number
 abbrev pub answer : List ℕ → Rule → ℕ
@@ -61,17 +56,15 @@ both_say (suc (suc zero)) a b p = says p
 both_say (suc (suc (suc side))) a b p = absurd (omega arith)
 
 -- an accessor on side 1 or 2 is not on the other
-side_says : (side wanted u v : ℕ) → 1 ≤ side → side ≤ 2 → wanted ≤ 2 → OnSide (side_of side) u v
-    → Says (bit (sides_for wanted) side) (OnSide (side_of wanted) u v)
-side_says side zero u v a b w h = both_say side a b tt
-side_says zero (suc k) u v a b w h = absurd (omega arith)
-side_says (suc zero) (suc zero) u v a b w h = says h
-side_says (suc zero) (suc (suc zero)) u v a b w h = says (λ k. omega arith)
-side_says (suc (suc zero)) (suc zero) u v a b w h = says (λ k. omega arith)
-side_says (suc (suc zero)) (suc (suc zero)) u v a b w h = says h
-side_says (suc (suc (suc side))) (suc k) u v a b w h = absurd (omega arith)
-side_says (suc zero) (suc (suc (suc k))) u v a b w h = absurd (omega arith)
-side_says (suc (suc zero)) (suc (suc (suc k))) u v a b w h = absurd (omega arith)
+side_says : (side : ℕ) (wanted : Side) (u v : ℕ) → 1 ≤ side → side ≤ 2 → OnSide (side_of side) u v
+    → Says (bit (sides_for wanted) side) (OnSide (side_named wanted) u v)
+side_says side Any u v a b h = both_say side a b tt
+side_says zero wanted u v a b h = absurd (omega arith)
+side_says (suc zero) OwnerLesser u v a b h = says h
+side_says (suc zero) OwnerGreater u v a b h = says (λ k. omega arith)
+side_says (suc (suc zero)) OwnerLesser u v a b h = says (λ k. omega arith)
+side_says (suc (suc zero)) OwnerGreater u v a b h = says h
+side_says (suc (suc (suc side))) wanted u v a b h = absurd (omega arith)
 
 -- owner and accessor on a side are two
 sided : (side u v : ℕ) → 1 ≤ side → side ≤ 2 → OnSide (side_of side) u v → u ≡ v → ⊥
@@ -101,9 +94,9 @@ module _ (b sides : List ℕ) (p : ℕ) (lower : SidesBelow b sides p) (n u v si
       let (to, from) = lower q l n u v side least most h in
       record { yes_if = to; no_if = λ e a. false≢true (sym e ∙ from a) }
 
-  in_state : (t : Bool) (wanted : ℕ) → wanted ≤ 2 → Says (bit (cond t (sides_for wanted) 0) side) ((t ≡ true) × OnSide (side_of wanted) u v)
-  in_state true wanted f = iff (λ o. (refl, o)) (λ o. o.1) (side_says side wanted u v least most f h)
-  in_state false wanted f = neither_says side (λ o. false≢true o.0)
+  in_state : (t : Bool) (wanted : Side) → Says (bit (cond t (sides_for wanted) 0) side) ((t ≡ true) × OnSide (side_named wanted) u v)
+  in_state true wanted = iff (λ o. (refl, o)) (λ o. o.1) (side_says side wanted u v least most h)
+  in_state false wanted = neither_says side (λ o. false≢true o.0)
 
   rule_says : (rule : Rule) → RuleFits p rule → Says (bit (answer sides rule) side) (Admits (strangers n) (policy_of_rule (scheme_of b).policy rule) u v)
   rule_says NoOne f = neither_says side (λ x. x)
@@ -112,13 +105,17 @@ module _ (b sides : List ℕ) (p : ℕ) (lower : SidesBelow b sides p) (n u v si
   rule_says (Within k) f = neither_says side (λ (l, s, w). no_walk n u v (sided side u v least most h) l w)
   rule_says (Known k) f = neither_says side (no_shared n u v (sided side u v least most h) k f)
   rule_says (CliqueRule k) f = neither_says side (no_clique n u v (sided side u v least most h) k)
-  rule_says (State states wanted) f = in_state (bit states 0) wanted f
+  rule_says (State states wanted) f = in_state (bit states 0) wanted
   rule_says (Both left right) f = rw (bit_and_lem (get_or sides left 0) (get_or sides right 0) side) (conj (operand left f.0) (operand right f.1))
   rule_says (Either left right) f = rw (bit_or_lem (get_or sides left 0) (get_or sides right 0) side) (disj (operand left f.0) (operand right f.1))
 
 -- the answer for a rule has its sides
 pub answered : (b sides : List ℕ) (p : ℕ) (rule : Rule) → RuleFits p rule → SidesBelow b sides p → SidesOf (answer sides rule) (policy_of_rule (scheme_of b).policy rule)
 answered b sides p rule f lower n u v side least most h = let s = rule_says b sides p lower n u v side least most h rule f in (s.yes_if, is_so s)
+
+-- an answer is right where it is the rule's
+pub told : (b sides : List ℕ) (p : ℕ) (rule : Rule) (found : ℕ) → RuleFits p rule → SidesBelow b sides p → answer sides rule ≡ found → SidesOf found (policy_of_rule (scheme_of b).policy rule)
+told b sides p rule found f lower e = rw e at (answered b sides p rule f lower)
 
 -- one more policy
 pub sides_more : (b sides : List ℕ) (p x : ℕ) → p < length sides → SidesBelow b sides p → SidesOf x ((scheme_of b).policy p) → SidesBelow b (set sides p x) (p + 1)

@@ -1,78 +1,54 @@
 -- Suggest, answer by answer.
-use Prim.Native.Nat.{ℕ, ◌<◌, ◌≤◌}
-use mathlib.Core.Path.{◌≡◌, refl}
-use mathlib.Core.List.{List, [], ◌∷◌}
-use mathlib.Core.Logic.{inl, inr}
+use Rattle.std.proofs.Common.{ℕ, ◌<◌, ◌≤◌, ◌≡◌, refl, List, [], ◌∷◌, Ok, length, get_or, take, inr, arith}
 use native.Mathlib.Decide.{dec_lt}
-use native.Mathlib.Omega.{arith}
-use lib.ListN.{length, get_or, take}
 use Rattle.model.specs.Answers.{Requirement, Answers}
 use Rattle.model.specs.Graph.{shared}
 use Rattle.model.specs.Suggestions.{Suggestible}
 use Rattle.model.specs.Calls.{suggest_call_needs}
 use Rattle.model.proofs.Walking.{found_member}
 use Rattle.model.proofs.Suggesting.{suggestions_ranked}
-use Rattle.scheme.specs.declared.Reading.TheVariants.{Accepted, Refused as OpenRefused}
-use Rattle.tables.specs.declared.Summary.{Summary}
 use Rattle.network.specs.Ready.{world_of}
-use Rattle.network.proofs.Reading.{ready_range}
-use Rattle.opening.specs.Opened.{Opened}
-use Rattle.opening.proofs.CallAnswers.{refusal_stands, later_answers, one_member}
+use Rattle.network.specs.Worlds.{members_in, world_in}
+use Rattle.network.specs.declared.world.World.{World}
+use Rattle.opening.specs.Opened.{WorldOf}
+use Rattle.opening.proofs.Opening.{opened_ready, later_answers, one_member}
 use Rattle.page.specs.Pages.{Filled}
 use Rattle.suggestions.specs.Ranks.{RanksBelow}
-use Rattle.suggestions.specs.declared.Suggested.TheVariants.{Members, Refused}
 use Rattle.suggestions.specs.Answered.{SuggestCalled}
 
 -- what suggest asks beyond 6
 abbrev suggest_later : ℕ → ℕ → List Requirement
 suggest_later c places = (13, c ≤ places) ∷ []
 
-module _ {b net : List ℕ} {v c : ℕ} {out : List ℕ} where
-  nothing_written : (k : ℕ) → 1 ≤ k → Answers (suggest_call_needs b net v c (length out)) k → SuggestCalled b net v c out (Refused k) out
-  nothing_written k l a = record {
-    left = record {
-      answered = a;
-      wrote = λ z. absurd (omega arith);
-      nothing = λ n. refl;
-      front = record { within = omega arith; behind = refl };
-    };
-    numbered = l;
-  }
-
-  pub suggest_refused : {k : ℕ} → Opened b net v v (OpenRefused k) → SuggestCalled b net v c out (Refused k) out
-  suggest_refused {k} h =
-      nothing_written k h.1
-      (one_member b net v (suggest_later c (length out)) k (refusal_stands b net v v (suggest_later c (length out)) k h))
-
-module _ {b net : List ℕ} {v : ℕ} {s : Summary} (h : Opened b net v v (Accepted s)) where
+module _ {b net : List ℕ} {v : ℕ} {w : World} (h : WorldOf b net v v w) where
   opened_answers : (c places k : ℕ) → Answers (suggest_later c places) k → Answers (suggest_call_needs b net v c places) k
-  opened_answers c places k a = one_member b net v (suggest_later c places) k (later_answers b net v v (suggest_later c places) k h a)
+  opened_answers c places k a = one_member b net v (suggest_later c places) k (later_answers b net v v (suggest_later c places) h a)
 
-  pub suggest_13 : {c : ℕ} {out : List ℕ} → length out < c → SuggestCalled b net v c out (Refused 13) out
-  suggest_13 {c} {out} l = nothing_written 13 (omega arith) (opened_answers c (length out) 13 (inl ((λ z. omega arith), refl)))
+  module _ {ranks : List ℕ} (ranked : RanksBelow (world_in w) v (members_in w) ranks) where
+    moved : (n : ℕ) → RanksBelow (world_in w) v n ranks → RanksBelow (world_of b net) v n ranks
+    moved n r = rw (h.scheme, h.network) at r
 
-  module _ {ranks : List ℕ} (x : RanksBelow (world_of b net) v s.members ranks) where
+    x : RanksBelow (world_of b net) v (members_in w) ranks
+    x = moved (members_in w) ranked
+
     may : (m : ℕ) → 1 ≤ get_or ranks m 0 → Suggestible (world_of b net) v m
-    may m l = go (dec_lt m s.members)
+    may m l = go (dec_lt m (members_in w))
       where
-        go : Dec (m < s.members) → Suggestible (world_of b net) v m
+        go : Dec (m < members_in w) → Suggestible (world_of b net) v m
         go (yes d) = (x.each m d).may l
         go (no d) = absurd (omega (arith, x.none m (omega arith)))
 
     counted : (m : ℕ) → Suggestible (world_of b net) v m → (m < length ranks) × (get_or ranks m 0 ≡ shared (world_of b net).graph v m)
     counted m g =
         let d = found_member (world_of b net) v m g.found in
-        let e = h.0.counts.members in
-        (omega (arith, ready_range h.0, x.long), (x.each m (omega arith)).counted g)
+        let e = (opened_ready h).counts.members in
+        (omega (arith, w.scheme.counts.few_members.1, x.long), (x.each m (omega arith)).counted g)
 
     pub suggest_0 : {c count : ℕ} {out after : List ℕ} → c ≤ length out → Filled ranks out c (length ranks) count after
-        → SuggestCalled b net v c out (Members count) after
+        → SuggestCalled b net v c out (Ok count) after
     suggest_0 {c} {count} {out} {after} l f = record {
-      left = record {
-        answered = opened_answers c (length out) 0 (inr (l, refl));
-        wrote = λ z. suggestions_ranked (world_of b net) v c (length ranks) (λ m. get_or ranks m 0) (take count after) (λ m d. may m) counted f.front;
-        nothing = λ n. absurd (n refl);
-        front = record { within = omega (arith, f.fits, f.long); behind = f.behind };
-      };
-      numbered = tt;
+      answered = opened_answers c (length out) 0 (inr (l, refl));
+      wrote = λ z. suggestions_ranked (world_of b net) v c (length ranks) (λ m. get_or ranks m 0) (take count after) (λ m d. may m) counted f.front;
+      nothing = λ n. absurd (n refl);
+      front = record { within = omega (arith, f.fits, f.long); behind = f.behind };
     }

@@ -1,24 +1,9 @@
 -- What suggest answers, in document 01's numbers.
-use Rattle.std.specs.Prelude.{ℕ, ◌≤◌, List}
+use Rattle.std.specs.Prelude.{ℕ, List, Result}
 use Rattle.model.specs.Calls.{SuggestLeft}
-use Rattle.suggestions.specs.declared.Suggested.{Suggested}
-use Rattle.suggestions.specs.declared.Suggested.TheVariants.{Members, Refused}
-
--- the number and the count of an answer
-abbrev pub number_of : Suggested → ℕ
-number_of (Members count) = 0
-number_of (Refused number) = number
-
-abbrev pub count_of : Suggested → ℕ
-count_of (Members count) = count
-count_of (Refused number) = 0
-
--- a refusal has a number above 0
-abbrev pub Numbered : Suggested → Type 0
-Numbered (Members count) = Unit {0}
-Numbered (Refused number) = 1 ≤ number
+use Rattle.refusals.specs.Numbers.{answer_of, count_of}
+use Rattle.refusals.specs.declared.Refusal.{Refusal}
 
 -- what the call leaves
-pub record SuggestCalled (b net : List ℕ) (v c : ℕ) (out : List ℕ) (answer : Suggested) (after : List ℕ) : Type 0 where
-  pub left : SuggestLeft b net v c out (number_of answer) (count_of answer) after
-  pub numbered : Numbered answer
+abbrev pub SuggestCalled : List ℕ → List ℕ → ℕ → ℕ → List ℕ → Result ℕ Refusal → List ℕ → Type 0
+SuggestCalled b net v c out answer after = SuggestLeft b net v c out (answer_of answer) (count_of answer) after

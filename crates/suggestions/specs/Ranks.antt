@@ -1,18 +1,24 @@
 -- The rank of a member: its shared friends with the one who asks, where it may be suggested.
-use Rattle.std.specs.Prelude.{ℕ, ◌≤◌, ◌<◌, ◌≡◌, List, length, get_or}
+use Rattle.std.specs.Prelude.{ℕ, ◌≤◌, ◌<◌, ◌≡◌, List, Option, IfSome, length, get_or}
+use Rattle.std.specs.Borrow.{Bor}
 use Rattle.model.specs.Graph.{shared}
 use Rattle.model.specs.Finding.{World}
 use Rattle.model.specs.Suggestions.{Suggestible}
 use Rattle.finding.specs.Everyone.{Everyone}
 use Rattle.nearby.specs.Near.{Near}
+use Rattle.network.specs.Worlds.{world_in}
 use Rattle.sets.specs.Rows.{FriendRow, AllRows}
+use Rattle.suggestions.specs.declared.Sources.{Sources as Held}
 
--- what v's ranks are read from: whom v finds, who is near, v's friends, and a table of all rows, where it has the length of one
-pub record Sources (w : World) (v : ℕ) (found near friends rows : List ℕ) : Type 0 where
+-- what v's ranks are read from: whom v finds, who is near, v's friends, and a table of all rows, if there is one
+pub record Sources (w : World) (v : ℕ) (found near friends : List ℕ) (rows : Option (Bor (List ℕ))) : Type 0 where
   pub all : Everyone w v found
   pub around : Near w.graph v near
   pub own : FriendRow w.graph v friends
-  pub table : length rows ≡ 1024 → AllRows w.graph rows
+  pub table : IfSome rows (λ r. AllRows w.graph r.now)
+
+abbrev pub Sound : Held → Type 0
+Sound s = Sources (world_in s.world) s.v s.found.now s.near s.friends s.rows
 
 -- r is how many friends m shares with v; 0 where m may not be suggested to v
 pub record Ranked (w : World) (v m r : ℕ) : Type 0 where

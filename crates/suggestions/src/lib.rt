@@ -2,123 +2,102 @@
 
 #![tactic(auto)]
 
-ghost use Rattle.std.specs.Prelude.{◌≡◌, ℕ, ◌<◌, length, get_or};
-ghost use Rattle.finding.specs.Everyone.{Everyone};
-ghost use Rattle.network.specs.Ready.{Ready, world_of};
-ghost use Rattle.suggestions.specs.Ranks.{Sources, Ranked, RanksBelow};
+ghost use Rattle.std.specs.Prelude.{◌<◌};
+ghost use Rattle.network.specs.Worlds.{members_in, world_in};
+ghost use Rattle.suggestions.specs.Ranks.{Sound, Ranked, RanksBelow};
 ghost use Rattle.suggestions.specs.Answered.{SuggestCalled};
 
-use scheme::Reading;
-use tables::Summary;
+use network::World;
+use refusals::Refusal;
 
-// The call's answer: how many members it wrote, or the refusal's number.
+// What v's ranks are read from: whom v finds, who is near, v's friends, and a table of all rows, if there is one.
 #[derive(Clone, Copy)]
-pub enum Suggested {
-    Members(usize),
-    Refused(u8),
-}
-
-// Nobody has a rank.
-fn no_ranks() -> [u32; 256]
-    ensures { (length result ≡ 256) × ((m : ℕ) → get_or result m 0 ≡ 0) }
-{
-    [0u32; 256]
-}
-
-// How many friends m shares with v, whose friends are given; 0 where m may not be suggested: v does not find it, or it is v, a
-// friend, or not near. Rows are a table of all or nothing.
-fn rank(
-    scheme: &[u8],
-    summary: Summary,
-    network: &[u8],
-    found: &[u16],
+struct Sources<'a> {
+    world: World<'a>,
+    v: usize,
+    found: &'a [u16; 256],
     near: [u64; 4],
     friends: [u64; 4],
-    rows: &[u64],
-    v: usize,
-    m: usize,
-) -> u32
-    requires { Ready scheme.now summary network.now × Sources (world_of scheme.now network.now) v found.now near friends rows.now × (m < summary.members) }
-    ensures { Ranked (world_of scheme.now network.now) v m result }
-{
-    if found[m] == 0 {
-        return 0;
-    }
-    if m == v {
-        return 0;
-    }
-    if sets::has(friends, m) {
-        return 0;
-    }
-    if !sets::has(near, m) {
-        return 0;
-    }
-    sets::shared(friends, row_table::row(scheme, summary, network, rows, m))
+    rows: Option<&'a [u64; 1024]>,
 }
 
-// Writes the ranks of all members.
-fn rank_each(
+impl Sources<'_> {
+    // How many friends m shares with v; 0 where m may not be suggested: v does not find it, or it is v, a friend, or not near.
+    fn rank(&self, m: usize) -> u32
+        requires sound { Sound self.now }
+        requires member { m < members_in self.now.world }
+        ensures { Ranked (world_in self.now.world) self.now.v m result }
+    {
+        if self.found[m] == 0 {
+            return 0;
+        }
+        if m == self.v {
+            return 0;
+        }
+        if sets::has(self.friends, m) {
+            return 0;
+        }
+        if !sets::has(self.near, m) {
+            return 0;
+        }
+        sets::shared(self.friends, row_table::row(&self.world, self.rows, m))
+    }
+
+    // The ranks of all members.
+    fn ranks(&self) -> [u32; 256]
+        requires { Sound self.now }
+        ensures { RanksBelow (world_in self.now.world) self.now.v (members_in self.now.world) result }
+    {
+        let mut ranks = [0u32; 256];
+        for m in 0..self.world.members() {
+            ranks[m] = self.rank(m);
+        }
+        ranks
+    }
+}
+
+// The ranks of all members for v, by the table of all rows where many are near.
+fn ranks_for(world: &World<'_>, v: usize) -> [u32; 256]
+    requires { v < members_in world.now }
+    ensures { RanksBelow (world_in world.now) v (members_in world.now) result }
+{
+    let found = checks::everyone(world, v);
+    let friends = rows::friend_row(world, v);
+    let near = nearby::members(world, friends);
+    let sources = Sources {
+        world: *world,
+        v,
+        found: &found,
+        near,
+        friends,
+        rows: None,
+    };
+    if sets::shared(near, near) <= 32 {
+        return sources.ranks();
+    }
+    let mut rows = [0u64; 1024];
+    row_table::fill_rows(world, &mut rows);
+    Sources {
+        rows: Some(&rows),
+        ..sources
+    }
+    .ranks()
+}
+
+// Suggest: the first c of the members that v might know. A grant says how many it wrote.
+pub fn suggest(
     scheme: &[u8],
-    summary: Summary,
     network: &[u8],
-    found: &[u16],
-    near: [u64; 4],
-    friends: [u64; 4],
-    rows: &[u64],
     v: usize,
-    ranks: &mut [u32],
-)
-    requires { Ready scheme.now summary network.now × Sources (world_of scheme.now network.now) v found.now near friends rows.now × RanksBelow (world_of scheme.now network.now) v 0 ranks.old }
-    ensures { RanksBelow (world_of scheme.now network.now) v summary.members ranks.new }
-{
-    let mut m: usize = 0;
-    while m < summary.members {
-        ranks[m] = rank(scheme, summary, network, found, near, friends, rows, v, m);
-        m += 1;
-    }
-}
-
-// Writes the ranks of all members, by the table of all rows where many are near.
-fn rank_all(
-    scheme: &[u8],
-    summary: Summary,
-    network: &[u8],
-    found: &[u16],
-    v: usize,
-    ranks: &mut [u32],
-)
-    requires { Ready scheme.now summary network.now × (v < summary.members) × Everyone (world_of scheme.now network.now) v found.now × RanksBelow (world_of scheme.now network.now) v 0 ranks.old }
-    ensures { RanksBelow (world_of scheme.now network.now) v summary.members ranks.new }
-{
-    let friends = rows::friend_row(scheme, summary, network, v);
-    let near = nearby::members(scheme, summary, network, friends);
-    if sets::shared(near, near) > 32 {
-        let mut rows = row_table::no_rows();
-        row_table::fill_rows(scheme, summary, network, &mut rows);
-        rank_each(
-            scheme, summary, network, found, near, friends, &rows, v, ranks,
-        );
-        return;
-    }
-    let none = [0u64; 1];
-    rank_each(
-        scheme, summary, network, found, near, friends, &none, v, ranks,
-    );
-}
-
-// Suggest: the first c of the members that v might know.
-pub fn suggest(scheme: &[u8], network: &[u8], v: usize, c: usize, output: &mut [u16]) -> Suggested
+    c: usize,
+    output: &mut [u16],
+) -> Result<usize, Refusal>
     ensures { SuggestCalled scheme.now network.now v c output.old result output.new }
 {
-    let reading = opening::open(scheme, network, v, v);
-    let Reading::Accepted(summary) = reading else {
-        return Suggested::Refused(scheme::number(reading));
-    };
+    let world = opening::open(scheme, network, v, v)?;
     if output.len() < c {
-        return Suggested::Refused(13);
+        return Err(Refusal::Output);
     }
-    let found = checks::everyone(scheme, summary, network, v);
-    let mut ranks = no_ranks();
-    rank_all(scheme, summary, network, &found, v, &mut ranks);
-    Suggested::Members(page::fill(output, c, &ranks))
+    let ranks = ranks_for(&world, v);
+    Ok(page::fill(output, c, &ranks))
 }

@@ -4,7 +4,7 @@ use mathlib.Core.Path.{◌≡◌}
 use mathlib.Core.List.{List}
 use Rattle.model.specs.SchemeBytes.{at3, at4, at5}
 use Rattle.tables.specs.Read.{CountsOf}
-use Rattle.tables.specs.declared.Summary.{Summary}
+use Rattle.tables.specs.declared.counts.Summary.{Summary}
 
 -- where the code finds the bodies of kinds 3 to 5, and how many resources there are
 pub record Places (b : List ℕ) (c : Summary) (marks policies masks resources : ℕ) : Type 0 where

@@ -1,1 +1,3 @@
+pub mod Once
 pub mod Read
+pub mod Schemes

@@ -2,7 +2,7 @@
 use Rattle.std.specs.Prelude.{ℕ, ◌≤◌, ◌<◌, ◌≡◌, List}
 use Rattle.model.specs.Bytes.{bit, NoBitFrom}
 use Rattle.model.specs.SchemeBytes.{n, S, A, I, P, Records, BytesFit, scheme_of}
-use Rattle.tables.specs.declared.Summary.{Summary}
+use Rattle.tables.specs.declared.counts.Summary.{Summary}
 
 -- c holds the five counts of the bytes' head record
 pub record CountsOf (b : List ℕ) (c : Summary) : Type 0 where

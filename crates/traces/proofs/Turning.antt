@@ -6,6 +6,10 @@ use native.Mathlib.Omega.{arith}
 use native.Mathlib.Numerals.{add-one}
 use lib.ListN.{length, take, drop, set}
 use lib.Seq.{take-suc-set, drop-set-lt, get_or-set_same, get_or-set_other}
+use Rattle.std.specs.Prelude.{Result, Ok, Err}
+use Rattle.std.specs.Result.{result_unwrap_or}
+use Rattle.refusals.specs.Numbers.{answer_of, count_of}
+use Rattle.refusals.specs.declared.Refusal.{Refusal}
 use Rattle.model.specs.Requests.{Request, Turn}
 use Rattle.model.specs.Machine.{requests}
 use Rattle.model.specs.Traces.{Trace, turns, last_bytes, Happens}
@@ -38,6 +42,16 @@ answers_then ((t', left) ∷ ts) t after = ap {B = List ℕ} (λ l. t'.answer �
 written_then : (ts : Trace) (t : Turn) (after : List ℕ) → written_of (turns (ts ++ (t, after) ∷ [])) ≡ written_of (turns ts) ++ t.written ∷ []
 written_then [] t after = refl
 written_then ((t', left) ∷ ts) t after = ap {B = List (List ℕ)} (λ l. t'.written ∷ l) (written_then ts t after)
+
+-- the number answered and the count, as they are stored
+counted : (told : Result ℕ Refusal) → result_unwrap_or told 0 ≡ count_of told
+counted (Ok count) = refl
+counted (Err refusal) = refl
+
+pub stored : (b net encoded : List ℕ) (n : ℕ) (lists left after : List ℕ) {k count : ℕ} (told : Result ℕ Refusal) → k ≡ answer_of told → count ≡ result_unwrap_or told 0
+    → Turned b net encoded n lists (answer_of told) (count_of told) left after
+    → Turned b net encoded n lists k count left after
+stored b net encoded n lists left after told e f h = rw (e, f ∙ counted told) h
 
 -- what n turns have done
 pub record SoFar (b before encoded : List ℕ) (n : ℕ) (answers counts lists net : List ℕ) : Type 0 where

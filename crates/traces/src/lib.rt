@@ -9,10 +9,10 @@ ghost use Rattle.traces.specs.Ran.{fitting, Ran, Kept};
 fn room(encoded: &[u16], answers: &[u8], counts: &[usize], lists: &[u16]) -> usize
     ensures { result ≡ fitting encoded.now answers.now counts.now lists.now }
 {
-    records::least(
-        records::least(encoded.len() / 4, answers.len()),
-        records::least(counts.len(), lists.len() / 256),
-    )
+    (encoded.len() / 4)
+        .min(answers.len())
+        .min(counts.len())
+        .min(lists.len() / 256)
 }
 
 // Calls as many of the requests as there is room for; how many.
@@ -29,12 +29,10 @@ pub fn run(
     ensures kept { Kept result answers.old counts.old lists.old answers.new counts.new lists.new }
 {
     let total = room(encoded, answers, counts, lists);
-    let mut n: usize = 0;
-    while n < total {
+    for n in 0..total {
         let reply = encoded::call(scheme, network, encoded, n, lists);
-        answers[n] = reply.answer;
-        counts[n] = reply.count;
-        n += 1;
+        answers[n] = refusals::answer(reply);
+        counts[n] = reply.unwrap_or(0);
     }
     total
 }

@@ -1,2 +1,2 @@
 mod Choosing
-pub mod Validity
+mod Validity

@@ -3,21 +3,20 @@
 #![tactic(auto)]
 
 ghost use Rattle.std.specs.Prelude.{◌≡◌, true, ◌↔◌, ℕ, ◌+◌, ◌*◌, ◌<◌, ◌≤◌, length};
-ghost use Rattle.model.specs.Decides.{Decides};
 ghost use Rattle.model.specs.Bytes.{bit, byte};
-ghost use Rattle.model.specs.Network.{Valid, size, setting_place, pairs as pair_count};
-ghost use Rattle.model.specs.SchemeBytes.{scheme_of};
-ghost use Rattle.tables.specs.Read.{ReadAs};
-ghost use Rattle.validity.specs.Chosen.{Chosen};
+ghost use Rattle.model.specs.Decides.{Decides};
+ghost use Rattle.model.specs.Network.{Valid};
+ghost use Rattle.tables.specs.Schemes.{scheme_in};
+ghost use Rattle.validity.specs.Chosen.{Chosen, Offered};
 
-use tables::Summary;
+use tables::Scheme;
 
 // All policies up to a number, as a set.
 fn up_to(most: u8) -> u32
     requires { most < 32 }
     ensures { (p : ℕ) → (bit result p ≡ true) ↔ (p ≤ most) }
 {
-    4294967295u32 >> (31 - most)
+    u32::MAX >> (31 - most)
 }
 
 // Whether each policy of a set is in the mask.
@@ -28,75 +27,49 @@ fn subset(set: u32, mask: u32) -> bool
 }
 
 // The policies that the settings of one resource choose, as a set: the first member's setting is at a place, each next a stride further.
-// Two members a turn, into two sets: neither waits for the other.
-fn chosen(s: &[u8], at: usize, stride: usize, members: usize) -> u32
-    requires stride_bound { (at + members * stride ≤ 65536) × ((m : ℕ) → m < members → at + m * stride < length s.now) }
-    requires by_index { (m : ℕ) → m < members → byte s.now (at + m * stride) < 32 }
-    ensures { Chosen s.now at stride members result }
+fn chosen(settings: &[u8], first: usize, stride: usize, members: usize) -> u32
+    requires stride_bound { (m : ℕ) → m < members → first + m * stride < length settings.now }
+    requires by_index { (m : ℕ) → m < members → byte settings.now (first + m * stride) < 32 }
+    ensures { Chosen settings.now first stride members result }
 {
-    let mut one: u32 = 0;
-    let mut other: u32 = 0;
-    let mut k = at;
-    let mut m: usize = 0;
-    while members - m > 1 {
-        one = one | (1u32 << (s[k] % 32));
-        other = other | (1u32 << (s[k + stride] % 32));
-        k += 2 * stride;
-        m += 2;
+    let mut set = 0u32;
+    for m in 0..members {
+        set |= 1 << settings[first + m * stride];
     }
-    if m < members {
-        one = one | (1u32 << (s[k] % 32));
-    }
-    one | other
+    set
 }
 
-// Whether the settings of one resource are in the mask; all are in a wider set, and if that is in the mask they are not read.
-fn column_offered(s: &[u8], at: usize, stride: usize, members: usize, mask: u32, wider: u32) -> bool
-    requires stride_bound { (at + members * stride ≤ 65536) × ((m : ℕ) → m < members → at + m * stride < length s.now) }
-    requires by_index { (m : ℕ) → m < members → bit wider (byte s.now (at + m * stride)) ≡ true }
-    ensures { Decides result ((m : ℕ) → m < members → bit mask (byte s.now (at + m * stride)) ≡ true) }
+// Whether every setting is in its resource's mask; all are in a wider set, and where a mask has all of that its settings are not read.
+fn settings_offered(scheme: &Scheme<'_>, settings: &[u8], wider: u32) -> bool
+    requires sized { length settings.now ≡ scheme.now.counts.members * (2 + scheme.now.counts.primitives + scheme.now.counts.items) }
+    requires by_index { (k : ℕ) → k < length settings.now → bit wider (byte settings.now k) ≡ true }
+    ensures { Decides result (Offered scheme.now settings.now) }
 {
-    if subset(wider, mask) {
-        return true;
-    }
-    subset(chosen(s, at, stride, members), mask)
-}
-
-// Whether every setting is in its resource's mask; all are in a wider set.
-fn settings_offered(scheme: &[u8], c: Summary, network: &[u8], wider: u32) -> bool
-    requires read_as { ReadAs scheme.now c × (length network.now ≡ size (scheme_of scheme.now)) }
-    requires by_index { (k : ℕ) → pair_count c.members ≤ k → k < length network.now → bit wider (byte network.now k) ≡ true }
-    ensures { Decides result ((m r : ℕ) → m < c.members → r < 2 + c.primitives + c.items → bit ((scheme_of scheme.now).mask r) (byte network.now (setting_place (scheme_of scheme.now) m r)) ≡ true) }
-{
-    let from = network::read::pairs(c.members);
-    let resources = tables::resources(c);
-    let mut r: usize = 0;
-    while r < resources {
-        let mask = tables::mask(scheme, c, r);
-        if !column_offered(network, from + r, resources, c.members, mask, wider) {
+    let members = scheme.counts.members;
+    let resources = scheme.counts.resources();
+    for r in 0..resources {
+        let mask = scheme.mask(r);
+        if !subset(wider, mask) && !subset(chosen(settings, r, resources, members), mask) {
             return false;
         }
-        r += 1;
     }
     true
 }
 
 // Whether neither length nor any byte of a network is off.
-pub fn valid(scheme: &[u8], c: Summary, network: &[u8]) -> bool
-    requires { ReadAs scheme.now c }
-    ensures { Decides result (Valid (scheme_of scheme.now) network.now) }
+pub fn valid(scheme: &Scheme<'_>, network: &[u8]) -> bool
+    ensures { Decides result (Valid (scheme_in scheme.now) network.now) }
 {
-    let pairs = network::read::pairs(c.members);
-    let end = network::read::size(scheme, c);
-    if network.len() != end {
+    if network.len() != network::size(scheme) {
         return false;
     }
-    if records::wide(records::greatest(network, 0, pairs, 0)) >= c.states {
+    let (states, settings) = network.split_at(network::pairs(scheme.counts.members));
+    if usize::from(records::greatest(states, 0)) >= scheme.counts.states {
         return false;
     }
-    let most = records::greatest(network, pairs, end - pairs, 0);
+    let most = records::greatest(settings, 0);
     if most >= 32 {
         return false;
     }
-    settings_offered(scheme, c, network, up_to(most))
+    settings_offered(scheme, settings, up_to(most))
 }

@@ -1,138 +1,176 @@
 -- The members to whom a chain goes on from an expanded one are marked, turn by turn.
 use Prim.Native.Nat.{ℕ, ◌+◌, ◌-◌, ◌<◌, ◌≤◌, min}
-use mathlib.Core.Path.{◌≡◌, refl, sym}
-use mathlib.Core.Bool.{Bool, true, false}
+use mathlib.Core.Path.{◌≡◌, refl, sym, ap, ◌∙◌}
+use mathlib.Core.Bool.{Bool, false}
 use mathlib.Core.List.{List, [], ◌∷◌, ◌++◌}
-use mathlib.Core.Logic.{⊎_elim}
-use native.Mathlib.Decide.{ℕ_discrete, dec_lt}
+use mathlib.Core.Logic.{inl, ⊎_elim}
+use native.Mathlib.Decide.{dec_lt}
 use native.Mathlib.Omega.{arith}
-use borrow.Author.Count.{below_none}
-use lib.ListN.{length, get_or, set, length-set}
-use Rattle.model.specs.Graph.{Friends}
-use Rattle.model.specs.Decides.{Decides}
+use lib.Dec.{eqb}
+use lib.ListN.{get_or, set, length-set}
+use borrow.Author.Tests.{eqb-false}
+use Rattle.std.proofs.Common.{Option, None, Some}
+use Rattle.std.specs.Option.{option_eq, unwrap_or}
+use Rattle.model.specs.Graph.{Graph, Friends}
 use Rattle.model.specs.Finding.{World, paths, Goes, Finds, Allows}
-use Rattle.model.proofs.Deciding.{said_yes, said_no}
+use Rattle.model.specs.SchemeBytes.{n}
 use Rattle.model.proofs.Walking.{further}
+use Rattle.network.specs.Ready.{graph_of}
+use Rattle.prepared.specs.Asking.{Asking, graph_asked}
+use Rattle.starts.specs.Starts.{StartsAdded}
 use Rattle.starts.proofs.OneStored.{Stored, one_stored}
-use Rattle.walk.specs.Walks.{NobodyWaits, AllSeen, Walk, NoMarkFell, Unmet, WalkFor}
+use Rattle.starts.proofs.StartsMarked.{add, skip_to, starts_as}
+use Rattle.walk.specs.Walks.{sought, NobodyWaits, AllSeen, FirstMarked, NoneMarked, Met, Expanded, Unmet, WalkFor}
 use Rattle.walk.proofs.SumsFall.{sum_below, one_falls}
 
 -- what is left to do: two steps for an unseen member, one for a waiting one
 abbrev pub undone : ℕ → List ℕ → ℕ
 undone n seen = sum_below (λ (k : ℕ). 2 - get_or seen k 0) n
 
+-- k is another than the member named
+pub not_sought : (n k : ℕ) {r : Bool} (u : Option ℕ) → k < n → r ≡ option_eq eqb (Some k) u → r ≡ false → k ≡ sought n u → ⊥
+not_sought n k None l e y h = omega arith
+not_sought n k (Some x) l e y h = eqb-false k x (sym e ∙ y) h
+
+module _ {g : Graph} {m s i low : ℕ} {before seen : List ℕ} (x : Expanded g m s before i low seen) where
+  -- up to r, all friends are seen
+  pub expand_to : {r : ℕ} → ((k : ℕ) → k < r → i ≤ k → Friends g m k → 1 ≤ get_or seen k 0) → Expanded g m s before r low seen
+  expand_to h = record { added = skip_to x.added h; least = x.least; same = x.same; passed = x.passed }
+
+  -- i is an unseen friend, and another than s
+  pub expand_mark : g.members ≤ 256 → i < g.members → Friends g m i → get_or seen i 0 ≡ 0 → (i ≡ s → ⊥) → Expanded g m s before (i + 1) (min low i) (set seen i 1)
+  expand_mark small b f z n = record {
+    added = add x.added small b z f;
+    least = omega (arith, x.least);
+    same = λ k a. ⊎_elim (λ q. absurd (omega (arith, q.0))) (λ q. q.1 ∙ x.same k (omega arith)) (at k);
+    passed = λ a e. ⊎_elim (λ q. absurd (n (sym q.0))) (λ q. q.1 ∙ x.passed a e) (at s);
+  }
+    where
+      at : (k : ℕ) → Stored seen i 1 k
+      at = one_stored seen i 1 x.added.long (omega arith)
+
 -- m, the first that waits, is next to be expanded
 pub record Chosen (w : World) (v u m : ℕ) (first seen : List ℕ) : Type 0 where
-  pub walk : Walk w v seen
-  pub kept : NoMarkFell w first seen
-  pub unmet : Unmet w u seen
+  pub walking : WalkFor w v u first seen
   pub small : w.graph.members ≤ 256
   pub member : m < w.graph.members
   pub waits : get_or seen m 0 ≡ 1
   pub nobody : NobodyWaits m seen
 
--- m is being expanded: of those to whom a chain goes on from it, the ones below i are seen
-pub record Expanding (w : World) (v u m : ℕ) (before : List ℕ) (i : ℕ) (seen : List ℕ) : Type 0 where
-  pub long : length seen ≡ 256
-  pub sound : (k : ℕ) → k < w.graph.members → 1 ≤ get_or seen k 0 → Finds w v k
-  pub closed : (j k : ℕ) → j < w.graph.members → (j ≡ m → ⊥) → 2 ≤ get_or seen j 0 → Goes (paths w) v j k → 1 ≤ get_or seen k 0
-  pub own : (k : ℕ) → k < i → Goes (paths w) v m k → 1 ≤ get_or seen k 0
-  pub from : Finds w v m
-  pub kept : NoMarkFell w before seen
-  pub unmet : Unmet w u seen
+-- the first that waits, where nobody does below a member
+pub chosen : {w : World} {v u low end m : ℕ} {first seen : List ℕ} → WalkFor w v u first seen → (end ≡ w.graph.members) × (w.graph.members ≤ 256)
+    → NobodyWaits low seen
+    → FirstMarked 1 seen low end (Some m)
+    → Chosen w v u m first seen
+chosen {low = low} x (e, small) none f = record {
+  walking = x;
+  small = small;
+  member = omega arith;
+  waits = f.2;
+  nobody = λ k a. elim (dec_lt k low) [ yes l ↦ none k l | no l ↦ f.3 k (omega arith) a ];
+}
+
+-- everyone below the first unseen is seen
+pub first_unseen : {from end x : ℕ} (seen : List ℕ) (r : Option ℕ) → AllSeen from seen → FirstMarked 0 seen from end r → x ≡ unwrap_or r end
+    → (x ≤ end) × AllSeen x seen
+first_unseen {from} {end} {x} seen r a f e = go r f e
+  where
+    upto : (i : ℕ) → NoneMarked 0 seen from i → AllSeen i seen
+    upto i none k b = elim (dec_lt k from) [ yes l ↦ a k l | no l ↦ let z = none k (omega arith) b in omega arith ]
+
+    go : (r : Option ℕ) → FirstMarked 0 seen from end r → x ≡ unwrap_or r end → (x ≤ end) × AllSeen x seen
+    go None f e = (omega arith, rw e (upto end f))
+    go (Some i) f e = (omega (arith, f.1), rw e (upto i f.3))
+
+-- the end, the number of members
+pub members_asked : (a : Asking) (b : List ℕ) {members end : ℕ} → b ≡ a.scheme → members ≡ n b → (end ≡ members) × (end ≤ 256)
+    → (end ≡ n a.scheme) × (n a.scheme ≤ 256)
+members_asked a b e f (g, l) = let d : n b ≡ n a.scheme = ap n e in (g ∙ f ∙ d, omega arith)
+
+-- what is told of a world's bytes, of the accessor's
+pub asked : (P : Graph → ℕ → Type 0) (a : Asking) (b net : List ℕ) (members : ℕ) → b ≡ a.scheme → net ≡ a.network → members ≡ n b
+    → P (graph_of b net) members
+    → P (graph_asked a) (n a.scheme)
+asked P a b net members e f g x = rw (g, e, f) at x
 
 module _ {w : World} {v u m : ℕ} {first seen : List ℕ} (h : Chosen w v u m first seen) where
+  -- m is expanded
+  abbrev marked : List ℕ
+  marked = set seen m 2
+
   at : (k : ℕ) → Stored seen m 2 k
-  at = one_stored seen m 2 h.walk.long (omega arith)
+  at = one_stored seen m 2 h.walking.walk.long (omega (arith, h.small, h.member))
 
-  pub expand_begin : Expanding w v u m (set seen m 2) 0 (set seen m 2)
-  expand_begin = record {
-    long = simp length-set h.walk.long;
-    sound = λ k a p. ⊎_elim (λ q. rw q.0 (h.walk.sound m h.member (omega arith))) (λ q. h.walk.sound k a (omega arith)) (at k);
-    closed = λ j k a d p g.
-        ⊎_elim (λ q. absurd (d q.0))
-        (λ q. let y = h.walk.closed j k a (omega arith) g in ⊎_elim (λ z. omega arith) (λ z. omega arith) (at k))
-        (at j);
-    own = below_none _;
-    from = h.walk.sound m h.member (omega arith);
-    kept = λ k a. omega arith;
-    unmet = λ a. let z = h.unmet a in ⊎_elim (λ q. let y = rw q.0 at z in omega arith) (λ q. omega arith) (at u);
-  }
+  pub still_unmet : Unmet w u marked
+  still_unmet a = let z = h.walking.unmet a in ⊎_elim (λ q. let y = rw q.0 at z in omega (arith, h.waits)) (λ q. omega arith) (at u)
 
-  pub nobody_else : NobodyWaits m (set seen m 2)
-  nobody_else k a p = ⊎_elim (λ q. omega arith) (λ q. h.nobody k a (omega arith)) (at k)
-
-  pub still_seen : {i : ℕ} → AllSeen i seen → AllSeen i (set seen m 2)
+  pub still_seen : {i : ℕ} → AllSeen i seen → AllSeen i marked
   still_seen s k a = let y = s k a in ⊎_elim (λ q. omega arith) (λ q. omega arith) (at k)
 
-  module _ {i : ℕ} {next : List ℕ} (y : Expanding w v u m (set seen m 2) i next) where
-    pub expand_falls : undone w.graph.members next < undone w.graph.members seen
-    expand_falls =
-        one_falls _ _ w.graph.members m h.member
-        (let z = y.kept m h.member in ⊎_elim (λ q. omega arith) (λ q. absurd (q.0 refl)) (at m))
-        (λ k a. let z = y.kept k a in ⊎_elim (λ q. let e : get_or seen k 0 ≡ 1 = rw q.0 h.waits in omega arith) (λ q. omega arith) (at k))
+  pub nobody_else : {low : ℕ} (next : List ℕ) → low ≤ m → ((k : ℕ) → k < low → get_or next k 0 ≡ get_or marked k 0) → NobodyWaits low next
+  nobody_else next b same k a p = let e = same k a in ⊎_elim (λ q. absurd (omega arith)) (λ q. h.nobody k (omega arith) (omega arith)) (at k)
 
-    over : ((k : ℕ) → Goes (paths w) v m k → k < i) → WalkFor w v u first next
-    over f = record {
+  -- the members to whom a chain goes on from m are seen
+  module _ {next : List ℕ} (y : StartsAdded w.graph.members (λ k. Goes (paths w) v m k) marked w.graph.members next) where
+    raised : (k : ℕ) → k < w.graph.members → get_or marked k 0 ≤ get_or next k 0
+    raised k a = ⊎_elim (λ e. omega arith) (λ e. omega arith) (y.each k a)
+
+    pub all_seen : {i : ℕ} → i ≤ w.graph.members → AllSeen i marked → AllSeen i next
+    all_seen b s k a = omega (arith, s k a, raised k (omega arith))
+
+    own : Finds w v m
+    own = h.walking.walk.sound m h.member (omega (arith, h.waits))
+
+    -- so the walk goes on
+    pub walk_on : Unmet w u next → WalkFor w v u first next
+    walk_on unmet = record {
       walk = record {
         long = y.long;
-        sound = y.sound;
-        closed = λ j k a p g. elim (ℕ_discrete j m) [ yes q ↦ let s = rw q at g in y.own k (f k s) s | no d ↦ y.closed j k a d p g ];
+        sound = λ k a p.
+            ⊎_elim
+            (λ e. ⊎_elim (λ q. rw q.0 own) (λ q. h.walking.walk.sound k a (omega arith)) (at k))
+            (λ e. let (j, l, s, o) = own in (j, l ++ k ∷ [], s, further (Goes (paths w) v) j l m k o e.2))
+            (y.each k a);
+        closed = λ j k a p g.
+            ⊎_elim
+            (λ e.
+            ⊎_elim (λ q. y.added k g.0 (rw q.0 at g))
+            (λ q. let z = h.walking.walk.closed j k a (omega arith) g in let r = raised k g.0 in ⊎_elim (λ q. omega arith) (λ q. omega arith) (at k))
+            (at j))
+            (λ e. absurd (omega arith))
+            (y.each j a);
       };
       kept = λ k a.
-          let p = h.kept k a in
-          let z = y.kept k a in
+          let p = h.walking.kept k a in
+          let r = raised k a in
           ⊎_elim (λ q. let s : get_or seen k 0 ≡ 1 = rw q.0 h.waits in omega arith) (λ q. omega arith) (at k);
-      unmet = y.unmet;
+      unmet = unmet;
     }
 
-    -- every member was tried
-    pub expand_done : w.graph.members ≤ i → WalkFor w v u first next
-    expand_done l = over (λ k g. omega (arith, g.0))
+    -- and less is left to do
+    pub less : undone w.graph.members next < undone w.graph.members seen
+    less =
+        one_falls _ _ w.graph.members m h.member
+        (let r = raised m h.member in ⊎_elim (λ q. omega (arith, h.waits)) (λ q. absurd (q.0 refl)) (at m))
+        (λ k a.
+        let r = raised k a in
+        ⊎_elim (λ q. let e : get_or seen k 0 ≡ 1 = rw q.0 h.waits in omega arith) (λ q. omega arith) (at k))
 
-    -- m's traversal setting refuses
-    pub expand_refused : {a : Bool} → a ≡ false → Decides a (Allows w m 1 v) → WalkFor w v u first next
-    expand_refused n d = over (λ k g. absurd (said_no n d g.2))
+  -- where m's traversal setting refuses, nobody is added
+  pub none_added : (Allows w m 1 v → ⊥) → StartsAdded w.graph.members (λ k. Goes (paths w) v m k) marked w.graph.members marked
+  none_added n = record { long = simp length-set h.walking.walk.long; added = λ k a g. absurd (n g.2); each = λ k a. inl refl }
 
-module _ {w : World} {v u m i : ℕ} {before seen : List ℕ} (x : Expanding w v u m before i seen) where
-  -- up to r, all friends are seen
-  pub expand_to : {r : ℕ} → ((k : ℕ) → k < r → i ≤ k → Friends w.graph m k → 1 ≤ get_or seen k 0) → Expanding w v u m before r seen
-  expand_to h = record {
-    long = x.long;
-    sound = x.sound;
-    closed = x.closed;
-    own = λ k a g. elim (dec_lt k i) [ yes l ↦ x.own k l g | no n ↦ h k a (omega arith) g.1 ];
-    from = x.from;
-    kept = x.kept;
-    unmet = x.unmet;
-  }
+  module _ (allowed : Allows w m 1 v) where
+    -- where it admits, its friends are
+    pub friends_added : {low : ℕ} {next : List ℕ} → Expanded w.graph m u marked w.graph.members low next
+        → StartsAdded w.graph.members (λ k. Goes (paths w) v m k) marked w.graph.members next
+    friends_added x = starts_as (λ k a f. (a, f, allowed)) (λ k g. g.1) x.added
 
-  pub seen_kept : {j : ℕ} → j ≤ w.graph.members → AllSeen j before → AllSeen j seen
-  seen_kept b s k a = omega (arith, s k a, x.kept k (omega arith))
+    pub passed_by : {low : ℕ} {next : List ℕ} → Expanded w.graph m u marked w.graph.members low next → Unmet w u next
+    passed_by x a = x.passed a (still_unmet a)
 
-  -- when i waits, nobody does below the least of i and a number below which nobody did
-  pub nobody_below : {low r : ℕ} → i < 256 → NobodyWaits low seen → r ≡ min low i → NobodyWaits r (set seen i 1)
-  nobody_below b n e k a h = ⊎_elim (λ s. omega arith) (λ s. n k (omega arith) (omega arith)) (one_stored seen i 1 x.long b k)
-
-  module _ {a : Bool} (b : i < w.graph.members) (y : a ≡ true) (d : Decides a (Allows w m 1 v)) (f : Friends w.graph m i) where
-    -- a chain goes on to i
-    pub expand_met : Finds w v i
-    expand_met = let (j, l, s, o) = x.from in (j, l ++ i ∷ [], s, further (Goes (paths w) v) j l m i o (b, f, said_yes y d))
-
-    -- who is unseen, and another than u
-    pub expand_mark : w.graph.members ≤ 256 → get_or seen i 0 ≡ 0 → (i ≡ u → ⊥) → Expanding w v u m before (i + 1) (set seen i 1)
-    expand_mark small z n = record {
-      long = simp length-set x.long;
-      sound = λ k a p. ⊎_elim (λ q. rw q.0 expand_met) (λ q. x.sound k a (omega arith)) (at k);
-      closed = λ j k a n p h.
-          ⊎_elim (λ q. absurd (omega arith))
-          (λ q. let y = x.closed j k a n (omega arith) h in ⊎_elim (λ z. omega arith) (λ z. omega arith) (at k))
-          (at j);
-      own = λ k a h. ⊎_elim (λ q. omega arith) (λ q. let y = x.own k (omega (arith, q.0)) h in omega arith) (at k);
-      from = x.from;
-      kept = λ k a. let y = x.kept k a in ⊎_elim (λ q. let p : get_or seen k 0 ≡ 0 = rw q.0 z in omega arith) (λ q. omega arith) (at k);
-      unmet = λ a. let y = x.unmet a in ⊎_elim (λ q. absurd (n (sym q.0))) (λ q. omega arith) (at u);
-    }
-      where
-        at : (k : ℕ) → Stored seen i 1 k
-        at = one_stored seen i 1 x.long (omega arith)
+    -- or u is found
+    pub met_found : Met w.graph m u → Finds w v u
+    met_found (b, f) =
+        let (j, l, s, o) = h.walking.walk.sound m h.member (omega (arith, h.waits)) in
+        (j, l ++ u ∷ [], s, further (Goes (paths w) v) j l m u o (b, f, allowed))

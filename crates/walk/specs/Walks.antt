@@ -1,6 +1,13 @@
 -- A walk: of a member, 0 unseen, 1 waiting to be expanded, 2 expanded.
-use Rattle.std.specs.Prelude.{ℕ, ◌≤◌, ◌<◌, ◌≡◌, Bool, true, false, List, length, get_or}
+use Rattle.std.specs.Prelude.{ℕ, ◌≤◌, ◌<◌, ◌≡◌, Bool, true, false, List, Option, None, Some, length, get_or}
+use Rattle.model.specs.Graph.{Graph, Friends}
 use Rattle.model.specs.Finding.{World, paths, Goes, Finds}
+use Rattle.starts.specs.Starts.{StartsAdded}
+
+-- whom a walk looks for: the member named, or the number n of members, where it looks for nobody
+abbrev pub sought : ℕ → Option ℕ → ℕ
+sought n (Some u) = u
+sought n None = n
 
 -- nobody below i waits
 abbrev pub NobodyWaits : ℕ → List ℕ → Type 0
@@ -10,17 +17,26 @@ NobodyWaits i seen = (k : ℕ) → k < i → get_or seen k 0 ≡ 1 → ⊥
 abbrev pub AllSeen : ℕ → List ℕ → Type 0
 AllSeen i seen = (k : ℕ) → k < i → 1 ≤ get_or seen k 0
 
--- r is the first that waits, or the number n of members where nobody does
-pub record FirstWaiting (n : ℕ) (seen : List ℕ) (r : ℕ) : Type 0 where
-  pub within : r ≤ n
-  pub waits : r < n → get_or seen r 0 ≡ 1
-  pub nobody : NobodyWaits r seen
+-- nobody from a member on, before an end, has that mark
+abbrev pub NoneMarked : ℕ → List ℕ → ℕ → ℕ → Type 0
+NoneMarked mark seen from end = (k : ℕ) → from ≤ k → k < end → get_or seen k 0 ≡ mark → ⊥
 
--- r is the first that is unseen, or the number n of members where nobody is
-pub record FirstUnseen (n : ℕ) (seen : List ℕ) (r : ℕ) : Type 0 where
-  pub within : r ≤ n
-  pub unseen : r < n → get_or seen r 0 ≡ 0
-  pub everyone : AllSeen r seen
+-- the first who has it, if there is one
+abbrev pub FirstMarked : ℕ → List ℕ → ℕ → ℕ → Option ℕ → Type 0
+FirstMarked mark seen from end (Some r) = (from ≤ r) × (r < end) × (get_or seen r 0 ≡ mark) × NoneMarked mark seen from r
+FirstMarked mark seen from end None = NoneMarked mark seen from end
+
+-- s is a member, and a friend of m
+abbrev pub Met : Graph → ℕ → ℕ → Type 0
+Met g m s = (s < g.members) × Friends g m s
+
+-- of the members below i, the friends of m are seen: the unseen of them wait, but for s, and all else stays; below a member, at
+-- most m, all stays
+pub record Expanded (g : Graph) (m s : ℕ) (before : List ℕ) (i low : ℕ) (after : List ℕ) : Type 0 where
+  pub added : StartsAdded g.members (λ k. Friends g m k) before i after
+  pub least : low ≤ m
+  pub same : (k : ℕ) → k < low → get_or after k 0 ≡ get_or before k 0
+  pub passed : s < g.members → get_or before s 0 ≡ 0 → get_or after s 0 ≡ 0
 
 -- whoever is seen is found, and all are seen to whom a chain goes on from an expanded member
 pub record Walk (w : World) (v : ℕ) (seen : List ℕ) : Type 0 where

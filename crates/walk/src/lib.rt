@@ -2,80 +2,79 @@
 
 #![tactic(auto)]
 
-ghost use Rattle.std.specs.Prelude.{◌≡◌, ◌<◌, ◌≤◌, length};
-ghost use Rattle.network.specs.Ready.{Ready, world_of};
-ghost use Rattle.prepared.specs.Prepared.{Prepared};
-ghost use Rattle.walk.specs.Walks.{NobodyWaits, AllSeen, FirstWaiting, FirstUnseen, Walk, Unmet, Walked};
+ghost use Rattle.std.specs.Prelude.{◌≡◌, ◌<◌, ◌≤◌, MatchOption};
+ghost use Rattle.model.specs.Graph.{Friends};
+ghost use Rattle.model.specs.SchemeBytes.{n};
+ghost use Rattle.network.specs.Worlds.{members_in, graph_in};
+ghost use Rattle.prepared.specs.Asking.{world_asked};
+ghost use Rattle.walk.specs.Walks.{sought, AllSeen, FirstMarked, Met, Expanded, Walk, Unmet, Walked};
 
-use tables::Summary;
+use network::World;
+use prepared::Accessor;
+use starts::WAITING;
 
-// The first member that waits, or their number; nobody below a member does.
-fn waiting(members: usize, seen: &[u16], from: usize) -> usize
-    requires { (members ≤ length seen.now) × (from ≤ members) × NobodyWaits from seen.now }
-    ensures { FirstWaiting members seen.now result }
+// Of a member that was expanded.
+const EXPANDED: u16 = 2;
+
+// The first member with a mark, from one on and before an end.
+fn first_marked(seen: &[u16; 256], mark: u16, from: usize, end: usize) -> Option<usize>
+    requires { (from ≤ end) × (end ≤ 256) }
+    ensures { FirstMarked mark seen.now from end result }
 {
-    let mut k = from;
-    while k < members {
-        if seen[k] == 1 {
-            return k;
+    for k in from..end {
+        if seen[k] == mark {
+            return Some(k);
         }
-        k += 1;
     }
-    k
+    None
 }
 
-// The first member that is unseen, or their number; everyone below a member is seen.
-fn first_unseen(members: usize, seen: &[u16], from: usize) -> usize
-    requires { (members ≤ length seen.now) × (from ≤ members) × AllSeen from seen.now }
-    ensures { FirstUnseen members seen.now result }
+// Marks the unseen friends of m as waiting, unless u, if one is named, is met among them. Everyone below a member is seen.
+// Returns a member, at most m, below whom no mark changed; none where u is met.
+fn expand(
+    world: &World<'_>,
+    m: usize,
+    u: Option<usize>,
+    mut from: usize,
+    seen: &mut [u16; 256],
+) -> Option<usize>
+    requires { (m < members_in world.now) × (from ≤ members_in world.now) × AllSeen from seen.old }
+    ensures { MatchOption result (Met (graph_in world.now) m (sought (members_in world.now) u)) (λ low. Expanded (graph_in world.now) m (sought (members_in world.now) u) seen.old (members_in world.now) low seen.new) }
 {
-    let mut k = from;
-    while k < members {
-        if seen[k] == 0 {
-            return k;
+    let mut low = m;
+    while let Some(k) = next_friend::friend(world, m, seen, from) {
+        if Some(k) == u {
+            return None;
         }
-        k += 1;
+        seen[k] = WAITING;
+        low = low.min(k);
+        from = k + 1;
     }
-    k
+    Some(low)
 }
 
-// Expands members until u is met or no member is left to expand. Nobody below low waits, everyone below first is seen.
-pub fn walk(
-    scheme: &[u8],
-    c: Summary,
-    network: &[u8],
-    distances: &[u16],
-    rows: &[u64],
-    v: usize,
-    u: usize,
-    seen: &mut [u16],
-) -> bool
-    requires { Ready scheme.now c network.now × Prepared scheme.now network.now v distances.now rows.now × (v < c.members) × Walk (world_of scheme.now network.now) v seen.old × Unmet (world_of scheme.now network.now) u seen.old }
-    ensures { Walked (world_of scheme.now network.now) v u seen.old seen.new result }
+// Expands members until u, if one is named, is met or no member is left to expand. Nobody below low waits, everyone below first
+// is seen.
+pub fn walk(accessor: &Accessor<'_>, u: Option<usize>, seen: &mut [u16; 256]) -> bool
+    requires { Walk (world_asked accessor.now) accessor.now.v seen.old × Unmet (world_asked accessor.now) (sought (n accessor.now.scheme) u) seen.old }
+    ensures { Walked (world_asked accessor.now) accessor.now.v (sought (n accessor.now.scheme) u) seen.old seen.new result }
 {
-    let mut low: usize = 0;
-    let mut first: usize = 0;
+    let world = accessor.world;
+    let members = world.members();
+    let mut low = 0;
+    let mut first = 0;
     let found = 'walk: loop {
-        let m = waiting(c.members, seen, low);
-        if m == c.members {
+        let Some(m) = first_marked(seen, WAITING, low, members) else {
             break 'walk false;
-        }
-        seen[m] = 2;
+        };
+        seen[m] = EXPANDED;
         low = m;
-        if starts::allows(scheme, c, network, distances, rows, m, 1, v) {
-            first = first_unseen(c.members, seen, first);
-            let mut k = first;
-            while k < c.members {
-                k = next_friend::friend(scheme, c, network, m, seen, k);
-                if k < c.members {
-                    if k == u {
-                        break 'walk true;
-                    }
-                    seen[k] = 1;
-                    low = records::least(low, k);
-                    k += 1;
-                }
-            }
+        if starts::allows(accessor, m, 1) {
+            first = first_marked(seen, 0, first, members).unwrap_or(members);
+            let Some(least) = expand(world, m, u, first, seen) else {
+                break 'walk true;
+            };
+            low = least;
         }
     };
     found

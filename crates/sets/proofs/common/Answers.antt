@@ -1,0 +1,12 @@
+use Rattle.std.proofs.Common.{ℕ, ◌&&◌, arith}
+use Rattle.model.specs.Bytes.{bit}
+use Rattle.model.proofs.Counting.{count_le}
+use Rattle.sets.proofs.CommonBits.{ones_common}
+use Rattle.sets.proofs.common.Goals as goal
+
+pub returns : goal.returns
+returns c =
+    let x = c.args.x in
+    let y = c.args.y in
+    let e = ones_common x y c.ranges.x.fits c.ranges.y.fits in
+    (e, omega (arith, e, count_le (λ (m : ℕ). bit x m && bit y m) 64))
