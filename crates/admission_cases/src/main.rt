@@ -22,7 +22,7 @@ fn print_admitted(
         return Err(Stop::End);
     };
     let mut distances = [0u16; 256];
-    let mut rows = [0u64; 1024];
+    let mut rows = [[0u64; 4]; 256];
     prepared::prepare(&world, v, &mut distances, &mut rows);
     let accessor = Accessor::new(&world, v, &distances, &rows);
     let set = policies::admitted(&accessor, u, 0, world.scheme.counts.policies);
@@ -35,29 +35,19 @@ fn run_case<R: Read>(
     rt: &impl Print,
     input: &mut R,
     number: u64,
-    scheme: &mut [u8],
-    network: &mut [u8],
+    scheme: &[u8],
+    network: &[u8],
 ) -> Result<(), Stop> {
-    let scheme_length = cases::read_part(input, scheme)?;
-    let network_length = cases::read_part(input, network)?;
     for _ in 0..cases::read_number(input)? {
         let v = cases::read_number(input)?;
         let u = cases::read_number(input)?;
-        print_admitted(
-            rt,
-            number,
-            &scheme[..scheme_length],
-            &network[..network_length],
-            v,
-            u,
-        )?;
+        print_admitted(rt, number, scheme, network, v, u)?;
     }
     Ok(())
 }
 
 fn main(rt: HostRuntime) -> io::Result<()> {
-    let mut input = rt.reader();
-    let mut scheme = [0u8; 65536];
-    let mut network = [0u8; 65536];
-    cases::run(|number| run_case(&rt, &mut input, number, &mut scheme, &mut network))
+    cases::run(&mut rt.reader(), |input, number, scheme, network| {
+        run_case(&rt, input, number, scheme, network)
+    })
 }

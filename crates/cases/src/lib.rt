@@ -3,10 +3,14 @@
 
 #![tactic(auto)]
 
-ghost use Rattle.std.specs.Prelude.{◌≡◌, ◌<◌, ◌≤◌, ℕ, length, IfOk, IfErr, Err};
-ghost use Rattle.cases.specs.declared.Stop.TheVariants.{Output};
-ghost use Rattle.cases.specs.Parts.{Within, Kept};
+ghost use Rattle.std.specs.Prelude.{◌≡◌, ◌<◌, ◌≤◌, ℕ, length, take, IfOk, IfErr, Err};
+ghost use Rattle.std.specs.Int.{w16, w64};
+ghost use Rattle.std.specs.declared.io.Error.{Error};
+ghost use Rattle.std.specs.Io.KnownBytes.{Consumes};
+ghost use Rattle.cases.specs.declared.Stop.TheVariants.{End, Output};
+ghost use Rattle.cases.specs.Parts.{NumberRead, Within, Kept};
 ghost use Rattle.cases.specs.Places.{Filled};
+ghost use Rattle.cases.specs.Runs.{OfCase};
 ghost use Rattle.cases.specs.Sums.{adler};
 
 use std::io;
@@ -25,14 +29,40 @@ impl From<io::Error> for Stop {
     }
 }
 
-// Runs a case after the other, numbered from 1 on, until one stops. A proved loop has to end, and nothing says that the input does:
-// the bound is one that no run reaches.
-pub fn run<F: FnMut(u64) -> Result<(), Stop>>(mut run_case: F) -> io::Result<()>
-    requires { F.IsAlwaysCallable run_case }
-    ensures { IfErr result (λ error. (before : F) × (number : ℕ) × (after : F) × F.step before number (Err (Output error)) after) }
+// Reads the two parts of a case, each to the front of its buffer, and runs it.
+fn run_next<R: Read, F: Fn(&mut R, u64, &mut [u8], &mut [u8]) -> Result<(), Stop>>(
+    input: &mut R,
+    number: u64,
+    first: &mut [u8],
+    second: &mut [u8],
+    run_case: &F,
+) -> Result<(), Stop>
+    requires { F.IsAlwaysCallable run_case.now }
+    ensures { IfErr result (λ stop. (error : Error) → stop ≡ Output error → OfCase (F.post run_case.now) error) }
 {
+    let of_first = read_part(input, first)?;
+    let of_second = read_part(input, second)?;
+    run_case(
+        input,
+        number,
+        &mut first[..of_first],
+        &mut second[..of_second],
+    )
+}
+
+// Runs a case after the other, numbered from 1 on, until one stops. A case begins with two parts. A proved loop has to end, and
+// nothing says that the input does: the bound is one that no run reaches.
+pub fn run<R: Read, F: Fn(&mut R, u64, &mut [u8], &mut [u8]) -> Result<(), Stop>>(
+    input: &mut R,
+    run_case: F,
+) -> io::Result<()>
+    requires { F.IsAlwaysCallable run_case }
+    ensures { IfErr result (OfCase (F.post run_case)) }
+{
+    let mut first = [0u8; 65536];
+    let mut second = [0u8; 65536];
     for number in 1..1000000 {
-        match run_case(number) {
+        match run_next(input, number, &mut first, &mut second, &run_case) {
             Ok(()) => {}
             Err(Stop::End) => return Ok(()),
             Err(Stop::Output(error)) => return Err(error),
@@ -43,7 +73,8 @@ pub fn run<F: FnMut(u64) -> Result<(), Stop>>(mut run_case: F) -> io::Result<()>
 
 // Reads until the buffer is full, the input ends or a read fails; how many bytes it put at the front of the buffer.
 pub fn read_full<R: Read>(input: &mut R, buffer: &mut [u8]) -> usize
-    ensures { result ≤ length buffer.new }
+    ensures within { result ≤ length buffer.new }
+    ensures bytes { Consumes (R.remaining input.old) (R.remaining input.new) (take result buffer.new) }
 {
     let mut done: usize = 0;
     while done < buffer.len() {
@@ -56,7 +87,10 @@ pub fn read_full<R: Read>(input: &mut R, buffer: &mut [u8]) -> usize
 }
 
 // Reads so many bytes.
-fn read_bytes<R: Read, const N: usize>(input: &mut R) -> Result<[u8; N], Stop> {
+fn read_bytes<R: Read, const N: usize>(input: &mut R) -> Result<[u8; N], Stop>
+    ensures ends { IfErr result (λ stop. stop ≡ End) }
+    ensures bytes { IfOk result (λ bytes. Consumes (R.remaining input.old) (R.remaining input.new) bytes) }
+{
     let mut bytes = [0u8; N];
     if read_full(input, &mut bytes) < N {
         return Err(Stop::End);
@@ -66,18 +100,24 @@ fn read_bytes<R: Read, const N: usize>(input: &mut R) -> Result<[u8; N], Stop> {
 
 // Reads a 2-byte number.
 pub fn read_number<R: Read>(input: &mut R) -> Result<usize, Stop>
-    ensures { IfOk result (λ n. n < 65536) }
+    ensures ends { IfErr result (λ stop. stop ≡ End) }
+    ensures small { IfOk result (λ n. n < 65536) }
+    ensures bytes { NumberRead w16 (R.remaining input.old) (R.remaining input.new) result }
 {
     Ok(usize::from(u16::from_le_bytes(read_bytes(input)?)))
 }
 
 // Reads an 8-byte number.
-pub fn read_long<R: Read>(input: &mut R) -> Result<usize, Stop> {
+pub fn read_long<R: Read>(input: &mut R) -> Result<usize, Stop>
+    ensures ends { IfErr result (λ stop. stop ≡ End) }
+    ensures bytes { NumberRead w64 (R.remaining input.old) (R.remaining input.new) result }
+{
     Ok(u64::from_le_bytes(read_bytes(input)?) as usize)
 }
 
 // Reads a 2-byte length and that many bytes; how many there were.
 pub fn read_part<R: Read>(input: &mut R, buffer: &mut [u8]) -> Result<usize, Stop>
+    ensures ends { IfErr result (λ stop. stop ≡ End) }
     ensures within { Within result (length buffer.new) }
     ensures kept { Kept result buffer.old buffer.new }
 {

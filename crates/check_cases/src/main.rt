@@ -5,7 +5,6 @@
 
 use cases::Stop;
 use std::io;
-use std::io::Read;
 
 // A case's lines on its scheme, and on its network as it is given.
 fn print_check(rt: &impl Print, number: u64, bytes: &[u8], network: &[u8]) -> io::Result<()> {
@@ -30,26 +29,15 @@ fn print_fresh(rt: &impl Print, number: u64, scheme: &[u8], network: &mut [u8]) 
     println!(rt; "{number} fresh {answer} {}", cases::sum(network))
 }
 
-// Reads a case and prints its lines.
-fn run_case<R: Read>(
-    rt: &impl Print,
-    input: &mut R,
-    number: u64,
-    scheme: &mut [u8],
-    network: &mut [u8],
-) -> Result<(), Stop> {
-    let scheme_length = cases::read_part(input, scheme)?;
-    let network_length = cases::read_part(input, network)?;
-    let scheme = &scheme[..scheme_length];
-    let network = &mut network[..network_length];
+// Prints a case's lines.
+fn run_case(rt: &impl Print, number: u64, scheme: &[u8], network: &mut [u8]) -> Result<(), Stop> {
     print_check(rt, number, scheme, network)?;
     print_fresh(rt, number, scheme, network)?;
     Ok(())
 }
 
 fn main(rt: HostRuntime) -> io::Result<()> {
-    let mut input = rt.reader();
-    let mut scheme = [0u8; 65536];
-    let mut network = [0u8; 65536];
-    cases::run(|number| run_case(&rt, &mut input, number, &mut scheme, &mut network))
+    cases::run(&mut rt.reader(), |_, number, scheme, network| {
+        run_case(&rt, number, scheme, network)
+    })
 }

@@ -33,7 +33,7 @@ fn ask<R, F: FnOnce(&Accessor<'_>) -> R>(world: &World<'_>, v: usize, asked: F) 
     ensures { FnOnceReturnsAt F.FnOnce asked (asking_in world.now v) result }
 {
     let mut distances = [0; 256];
-    let mut rows = [0; 1024];
+    let mut rows = [[0; 4]; 256];
     prepared::prepare(world, v, &mut distances, &mut rows);
     asked(&Accessor::new(world, v, &distances, &rows))
 }

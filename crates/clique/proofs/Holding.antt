@@ -6,11 +6,10 @@ use mathlib.Core.List.{List, [], ◌∷◌}
 use mathlib.Core.Logic.{inl, inr, ⊎_elim}
 use native.Mathlib.Decide.{ℕ_discrete, dec_le, dec_lt}
 use native.Mathlib.Omega.{arith}
-use lib.ListN.{length}
+use lib.ListN.{length, get_or}
 use Rattle.model.specs.Graph.{Graph, Friends, Mutual, Among, Clique}
 use Rattle.model.proofs.Cliques.{Other, mutual_friends, friend_of_all_lem, mutual_member, Without, without}
 use Rattle.sets.specs.Rows.{row_bit, FriendRow}
-use Rattle.sets.specs.Rows.{row_of}
 use Rattle.clique.specs.Cliques.{Undirected, LargestClique}
 use Rattle.sets.specs.Sets.{Meet, Has, NotEmpty}
 use Rattle.clique.specs.Mutual.{Holds, RowsOf, Inside, TellsEach, CliqueSize, FriendsOf}
@@ -124,13 +123,13 @@ module _ {g : Graph} {set row common : List ℕ} {m : ℕ} (few : g.members ≤ 
 -- ---- a loop over the members of a set
 
 -- what is to be found is found from m on
-pub record Left (rows set : List ℕ) (from j m : ℕ) : Type 0 where
+pub record Left (rows : List (List ℕ)) (set : List ℕ) (from j m : ℕ) : Type 0 where
   pub left : (g : Graph) → RowsOf g rows → Inside g set → Holds g set from j → Holds g set m j
 
-pub left_all : {rows set : List ℕ} {from j : ℕ} → Left rows set from j from
+pub left_all : {rows : List (List ℕ)} {set : List ℕ} {from j : ℕ} → Left rows set from j from
 left_all = record { left = λ g r i h. h }
 
-module _ {rows set : List ℕ} {from j m : ℕ} where
+module _ {rows : List (List ℕ)} {set : List ℕ} {from j m : ℕ} where
   -- the set has none from m to before n
   pub left_past : {n : ℕ} → ((k : ℕ) → m ≤ k → k < n → row_bit set k ≡ false) → Left rows set from j m → Left rows set from j n
   left_past {n} e l = record { left = λ g r i h. holds_past (l.left g r i h) e }
@@ -147,7 +146,7 @@ common_inside : {row set common : List ℕ} → Meet row set common → (g : Gra
 common_inside c g i y k = i y (in_both c y k).1
 
 -- the set has m, and this is what its members in m's row tell
-module _ (rows set : List ℕ) (m : ℕ) {common : List ℕ} {from j : ℕ} (h : Has set m) (c : Meet (row_of rows m) set common) where
+module _ (rows : List (List ℕ)) (set : List ℕ) (m : ℕ) {common : List ℕ} {from j : ℕ} (h : Has set m) (c : Meet (get_or rows m []) set common) where
   pub left_tried : TellsEach rows common (m + 1) j false → Left rows set from (suc j) m → Left rows set from (suc j) (m + 1)
   left_tried a l = record {
     left = λ g r i k. holds_tried r.few r.undirected (r.each m (i m h)) c (λ z. never ((a.tells g r (common_inside c g i)).complete z) refl) (l.left g r i k);
@@ -162,7 +161,7 @@ module _ (rows set : List ℕ) (m : ℕ) {common : List ℕ} {from j : ℕ} (h :
   }
 
 -- one member
-pub some_member : {set : List ℕ} {t : Bool} → NotEmpty set t → (rows : List ℕ) (from : ℕ) → TellsEach rows set from 1 t
+pub some_member : {set : List ℕ} {t : Bool} → NotEmpty set t → (rows : List (List ℕ)) (from : ℕ) → TellsEach rows set from 1 t
 some_member {set} {t} e rows from = record {
   tells = λ g r i. record {
     sound = λ d. let (m, h) = e.tells.0 d in record {
@@ -180,7 +179,7 @@ some_member {set} {t} e rows from = record {
     first (x ∷ l) e i = (x, (i x (inl refl)).0)
 
 -- two members: one that is a friend of another
-pub pair : {rows set all both : List ℕ} {from m : ℕ} {t : Bool} → Left rows set from 2 m → FriendsOf rows set m 256 all → Meet all set both → NotEmpty both t → TellsEach rows set from 2 t
+pub pair : {rows : List (List ℕ)} {set all both : List ℕ} {from m : ℕ} {t : Bool} → Left rows set from 2 m → FriendsOf rows set m 256 all → Meet all set both → NotEmpty both t → TellsEach rows set from 2 t
 pair {rows} {set} {all} {both} {from} {m} {t} l f c e = record {
   tells = λ g r i. record {
     sound = λ d.
@@ -252,7 +251,7 @@ module _ {g : Graph} {u v : ℕ} {rowU row_v common : List ℕ} (few : g.members
       go (yes e) x = omega arith
       go (no e) x = absurd (n (omega arith) (holds_less k (suc j) (omega arith) x))
 
-pub no_friends : (rows : List ℕ) (u v : ℕ) → row_bit (row_of rows u) v ≡ false → CliqueSize rows u v 1
+pub no_friends : (rows : List (List ℕ)) (u v : ℕ) → row_bit (get_or rows u []) v ≡ false → CliqueSize rows u v 1
 no_friends rows u v n = record {
   some = omega arith;
   most = omega arith;
@@ -260,26 +259,26 @@ no_friends rows u v n = record {
   alone = λ g r a e. refl;
 }
 
-pub none_asked : {rows set : List ℕ} → TellsEach rows set 0 0 true
+pub none_asked : {rows : List (List ℕ)} {set : List ℕ} → TellsEach rows set 0 0 true
 none_asked = record {
   tells = λ g r i. record { sound = λ e. record { list = []; long = refl; friends = tt; inside = λ y k. absurd k }; complete = λ h. refl };
 }
 
 -- friends whose common friends hold j mutual members and, of up to three, no more
-pub friends_with : {rows row_u row_v common : List ℕ} {u v : ℕ} (j : ℕ) → row_u ≡ row_of rows u → row_v ≡ row_of rows v → Has row_u v → Meet row_u row_v common
+pub friends_with : {rows : List (List ℕ)} {common : List ℕ} {u v : ℕ} (j : ℕ) → Has (get_or rows u []) v → Meet (get_or rows u []) (get_or rows v []) common
     → j ≤ 3
     → TellsEach rows common 0 j true
     → (j < 3 → TellsEach rows common 0 (suc j) false)
     → CliqueSize rows u v (2 + j)
-friends_with {rows} {common = common} {u} {v} j eu ev f c few x y = record {
+friends_with {rows} {common = common} {u} {v} j f c few x y = record {
   some = omega arith;
   most = omega arith;
   largest = λ g r a b d.
-      let p = rw (← eu) at (r.each u a) in
+      let p = r.each u a in
       let i : Inside g common = λ m h. row_inside p m (in_both c m h).0 in
-      largest_holds r.few r.undirected a b d p (rw (← ev) at (r.each v b)) c j (sym (p.bits v (omega (arith, r.few))) ∙ f) ((x.tells g r i).sound refl)
+      largest_holds r.few r.undirected a b d p (r.each v b) c j (sym (p.bits v (omega (arith, r.few))) ∙ f) ((x.tells g r i).sound refl)
       (λ l h. never (((y l).tells g r i).complete h) refl);
-  alone = λ g r a e. absurd (never (sym ((rw (← eu) at (r.each u a)).bits v (omega (arith, r.few))) ∙ f) (rw (← e) (r.undirected.none_own u)));
+  alone = λ g r a e. absurd (never (sym ((r.each u a).bits v (omega (arith, r.few))) ∙ f) (rw (← e) (r.undirected.none_own u)));
 }
 
 -- a common friend x, a common friend y of the three, and one more of the four: a clique of five

@@ -3,58 +3,39 @@
 #![tactic(auto)]
 
 ghost use Rattle.std.specs.Prelude.{◌≡◌, true, ℕ, ◌+◌, ◌<◌};
-ghost use Rattle.model.specs.Bytes.{bit};
-ghost use Rattle.clique.specs.Mutual.{TellsEach, CliqueSize, RowsJoined, FriendsOf};
-
-// The members found, and all friends of the members m + q, for each bit q of a word.
-fn join_rows(rows: &[u64; 1024], m: usize, word: u64, found: [u64; 4]) -> [u64; 4]
-    requires { (q : ℕ) → bit word q ≡ true → m + q < 256 }
-    ensures { RowsJoined rows.now m (λ q. bit word q ≡ true) found result }
-{
-    let mut all = found;
-    let mut left = word;
-    while left != 0 {
-        let more = sets::join(all, sets::row(rows, m + left.trailing_zeros() as usize));
-        all = more;
-        left &= left - 1;
-    }
-    all
-}
+ghost use Rattle.clique.specs.Mutual.{TellsEach, CliqueSize, FriendsOf};
 
 // All friends of the members of a set that are not below from.
-fn all_friends(rows: &[u64; 1024], set: [u64; 4], from: usize) -> [u64; 4]
+fn all_friends(rows: &[[u64; 4]; 256], set: [u64; 4], from: usize) -> [u64; 4]
     ensures { FriendsOf rows.now set from 256 result }
 {
     let mut all = [0; 4];
-    for w in from / 64..4 {
-        let m = from.max(w * 64);
-        let more = join_rows(rows, m, sets::rest(set, m), all);
+    for m in sets::members_from(set, from) {
+        let more = sets::join(all, rows[m]);
         all = more;
     }
     all
 }
 
 // Whether a set has two friends; the first is not looked for below from. One member is tried by itself, all others at once.
-fn has_pair(rows: &[u64; 1024], set: [u64; 4], from: usize) -> bool
+fn has_pair(rows: &[[u64; 4]; 256], set: [u64; 4], from: usize) -> bool
     ensures { TellsEach rows.now set from 2 result }
 {
     let Some(m) = sets::first_from(set, from) else {
         return false;
     };
-    if sets::not_empty(sets::meet(sets::row(rows, m), set)) {
+    if sets::not_empty(sets::meet(rows[m], set)) {
         return true;
     }
     sets::not_empty(sets::meet(all_friends(rows, set, m + 1), set))
 }
 
 // Whether a set has three friends of each other. Those already tried are not looked for again.
-fn has_triangle(rows: &[u64; 1024], set: [u64; 4]) -> bool
+fn has_triangle(rows: &[[u64; 4]; 256], set: [u64; 4]) -> bool
     ensures { TellsEach rows.now set 0 3 result }
 {
-    let mut from = 0;
-    while let Some(m) = sets::first_from(set, from) {
-        from = m + 1;
-        if has_pair(rows, sets::meet(sets::row(rows, m), set), from) {
+    for m in sets::members(set) {
+        if has_pair(rows, sets::meet(rows[m], set), m + 1) {
             return true;
         }
     }
@@ -62,15 +43,15 @@ fn has_triangle(rows: &[u64; 1024], set: [u64; 4]) -> bool
 }
 
 // The number of members, at most 5, of the largest clique with u and v among them; 1 where they are one.
-pub fn largest(rows: &[u64; 1024], u: usize, v: usize) -> usize
+pub fn largest(rows: &[[u64; 4]; 256], u: usize, v: usize) -> usize
     requires { (u < 256) × (v < 256) }
     ensures { CliqueSize rows.now u v result }
 {
-    let of_u = sets::row(rows, u);
+    let of_u = rows[u];
     if !sets::has(of_u, v) {
         return 1;
     }
-    let common = sets::meet(of_u, sets::row(rows, v));
+    let common = sets::meet(of_u, rows[v]);
     if !sets::not_empty(common) {
         return 2;
     }

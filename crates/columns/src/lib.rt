@@ -3,7 +3,7 @@
 #![tactic(auto)]
 
 ghost use Rattle.std.specs.Prelude.{◌≡◌, ℕ, ◌+◌, ◌%◌, ◌≤◌, ◌<◌, get_or};
-ghost use Rattle.columns.specs.Columns.{FlagsAdded, ColumnsPut};
+ghost use Rattle.columns.specs.Columns.{FlagsAdded, ByteAdded, ColumnsPut};
 
 // Adds the flags of 64 members as bit t. No branch: it becomes vector code.
 fn add_some(flags: &[u8; 256], t: usize, from: usize, columns: &mut [u8; 256])
@@ -25,15 +25,21 @@ pub fn add(flags: &[u8; 256], t: usize, count: usize, columns: &mut [u8; 256])
     }
 }
 
+// Adds eight bits to a row, from a member on.
+fn add_byte(row: &mut [u64; 4], from: usize, byte: u8)
+    requires { (from < 256) × (from % 8 ≡ 0) }
+    ensures { ByteAdded row.old from byte row.new }
+{
+    row[from / 64] |= u64::from(byte) << (from % 64);
+}
+
 // Puts the columns of the members below end into their rows, at the bits from a member on, and empties them.
-pub fn put(columns: &mut [u8; 256], from: usize, end: usize, rows: &mut [u64; 1024])
+pub fn put(columns: &mut [u8; 256], from: usize, end: usize, rows: &mut [[u64; 4]; 256])
     requires { (from < 256) × (from % 8 ≡ 0) × (end ≤ 256) }
     ensures { ColumnsPut columns.old from end rows.old columns.new rows.new }
 {
-    let word = from / 64;
-    let bit = from % 64;
     for m in 0..end {
-        rows[m * 4 + word] |= u64::from(columns[m]) << bit;
+        add_byte(&mut rows[m], from, columns[m]);
         columns[m] = 0;
     }
 }

@@ -22,27 +22,21 @@ fn run_case<R: Read>(
     rt: &impl Print,
     input: &mut R,
     number: u64,
-    scheme: &mut [u8],
-    network: &mut [u8],
+    scheme: &[u8],
+    network: &[u8],
 ) -> Result<(), Stop> {
-    let scheme_length = cases::read_part(input, scheme)?;
-    let network_length = cases::read_part(input, network)?;
     let count = cases::read_number(input)?;
     for place in 1..=count {
         let v = cases::read_number(input)?;
         let u = cases::read_number(input)?;
         print!(rt; "{number} {place}")?;
-        print_degree(
-            rt,
-            degree::degree(&scheme[..scheme_length], &network[..network_length], v, u),
-        )?;
+        print_degree(rt, degree::degree(scheme, network, v, u))?;
     }
     Ok(())
 }
 
 fn main(rt: HostRuntime) -> io::Result<()> {
-    let mut input = rt.reader();
-    let mut scheme = [0u8; 65536];
-    let mut network = [0u8; 65536];
-    cases::run(|number| run_case(&rt, &mut input, number, &mut scheme, &mut network))
+    cases::run(&mut rt.reader(), |input, number, scheme, network| {
+        run_case(&rt, input, number, scheme, network)
+    })
 }

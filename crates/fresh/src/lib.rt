@@ -40,7 +40,10 @@ fn fill(scheme: &Scheme<'_>, network: &mut [u8], from: usize)
 pub fn fresh(scheme: &[u8], network: &mut [u8]) -> Result<(), Refusal>
     ensures { Freshened scheme.now network.old (answer_of result) network.new }
 {
-    let scheme = scheme::check(scheme)?;
+    let checked = scheme::check(scheme);
+    let Ok(scheme) = checked else {
+        return Err(checked.unwrap_err());
+    };
     if network.len() != network::size(&scheme) {
         return Err(Refusal::Network);
     }

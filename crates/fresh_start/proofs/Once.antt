@@ -14,14 +14,13 @@ use Rattle.model.proofs.Leaving.{filled}
 use Rattle.model.proofs.Texts.{step_once}
 use Rattle.lines.proofs.Putting.{put_once}
 use Rattle.fresh_start.specs.Started.{Started}
-use Rattle.fresh_start.specs.Stands.{state_of, OnlyNetwork, Stepped}
+use Rattle.fresh_start.specs.Stands.{state_of, OnlyNetwork, Moment, Stepped}
 use Rattle.std.specs.Prelude.{Result, Ok, Err}
 use Rattle.refusals.specs.Numbers.{number}
 use Rattle.refusals.specs.declared.Refusal.{Refusal}
 use Rattle.refusals.proofs.Apart.{number_apart, number_above}
 use Rattle.fresh_start.specs.declared.Stand.{Stand}
 use Rattle.fresh_start.specs.declared.Stand.TheVariants.{Start as AtStart, At, Over}
-use Rattle.fresh_start.specs.declared.Filled.{Filled}
 
 -- equal fronts of bytes that were otherwise left alone
 front_once : {net m n : List ℕ} {c d : ℕ} → take c m ≡ take d n → FrontOnly c net m → FrontOnly d net n → (c ≡ d) × (m ≡ n)
@@ -70,11 +69,9 @@ stand_once net Over (At j q d) m n e f g = not_over e
 stand_once net Over Over m n e f g = (refl, f ∙ sym g)
 
 -- a step: one place to stand, one network, and one buffer
-pub stepped_once : {b log net old : List ℕ} {used : ℕ} {from : Stand} {to to' : Filled} {m n x y : List ℕ} → Stepped b log net old used from to m x
-    → Stepped b log net old used from to' n y
-    → (to ≡ to') × (m ≡ n) × (x ≡ y)
-stepped_once {b} {log} {net} {old} {used} {from} {to} {to'} {m} {n} {x} {y} p q =
-    let (line, state) = step_once b log (state_of from net) (state_of to.stand m) (state_of to'.stand n) p.line q.line p.steps q.steps in
+pub stepped_once : {b log : List ℕ} {from to to' : Moment} → Stepped b log from to → Stepped b log from to' → to ≡ to'
+stepped_once {b} {log} {from} {to} {to'} p q =
+    let (line, state) = step_once b log (state_of from.stand from.network) (state_of to.stand to.network) (state_of to'.stand to'.network) p.line q.line p.steps q.steps in
     let (u, bytes) = put_once line p.put q.put in
-    let (s, same) = stand_once net to.stand to'.stand m n state p.only q.only in
-    (λ i. record { stand = s i; used = u i }, same, bytes)
+    let (s, same) = stand_once from.network to.stand to'.stand to.network to'.network state p.only q.only in
+    λ i. record { stand = s i; network = same i; buffer = bytes i; used = u i }

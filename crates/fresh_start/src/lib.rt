@@ -2,10 +2,11 @@
 
 #![tactic(auto)]
 
-ghost use Rattle.std.specs.Prelude.{◌+◌, ◌≤◌, length};
+ghost use Rattle.std.specs.Prelude.{◌≡◌, ◌+◌, ◌≤◌, length};
 ghost use Rattle.fresh_start.specs.Started.{Started};
-ghost use Rattle.fresh_start.specs.Stands.{Stepped};
+ghost use Rattle.fresh_start.specs.Stands.{moment, Stepped};
 
+use lines::Text;
 use refusals::Refusal;
 
 // Where the program stands: before the scheme check; at the place of a record, at its position, with a network of so many bytes; or
@@ -17,19 +18,15 @@ pub enum Stand {
     Over,
 }
 
-// Where the program stands, and how much of the buffer is used.
-#[derive(Clone, Copy, Debug, PartialEq, Eq)]
-pub struct Filled {
-    pub stand: Stand,
-    pub used: usize,
-}
-
 // The scheme check, 15, and a fresh network at the front of the lent bytes; how many bytes it has.
 fn begin(scheme: &[u8], log: &[u8], network: &mut [u8]) -> Result<usize, Refusal>
     requires { 39296 ≤ length network.old }
     ensures { Started scheme.now log.now network.old result network.new }
 {
-    let read = scheme::check(scheme)?;
+    let checked = scheme::check(scheme);
+    let Ok(read) = checked else {
+        return Err(checked.unwrap_err());
+    };
     if log.len() > 16384 {
         return Err(Refusal::LogLength);
     }
@@ -39,24 +36,16 @@ fn begin(scheme: &[u8], log: &[u8], network: &mut [u8]) -> Result<usize, Refusal
 }
 
 // The first step: a fresh network, or the line of the refusal.
-pub fn first(
-    scheme: &[u8],
-    log: &[u8],
-    network: &mut [u8],
-    buffer: &mut [u8],
-    used: usize,
-) -> Filled
-    requires { (39296 ≤ length network.old) × (used + 1548 ≤ length buffer.old) }
-    ensures { Stepped scheme.now log.now network.old buffer.old used Stand.Start result network.new buffer.new }
+pub fn first(scheme: &[u8], log: &[u8], network: &mut [u8], text: &mut Text<'_>) -> Stand
+    requires { (39296 ≤ length network.old) × (text.old.used + 1548 ≤ length text.old.buffer.now) }
+    ensures stepped { Stepped scheme.now log.now (moment Stand.Start network.old text.old) (moment result network.new text.new) }
+    ensures same_reference { text.new.buffer.ghost_name ≡ text.old.buffer.ghost_name }
 {
     match begin(scheme, log, network) {
-        Ok(size) => Filled {
-            stand: Stand::At(0, 1, size),
-            used,
-        },
-        Err(refusal) => Filled {
-            stand: Stand::Over,
-            used: lines::put_line(0, u8::from(refusal), &[], buffer, used),
-        },
+        Ok(size) => Stand::At(0, 1, size),
+        Err(refusal) => {
+            text.line(0, u8::from(refusal), &[]);
+            Stand::Over
+        }
     }
 }

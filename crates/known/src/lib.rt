@@ -2,12 +2,12 @@
 
 #![tactic(auto)]
 
-ghost use Rattle.std.specs.Prelude.{ℕ, ◌<◌};
+ghost use Rattle.std.specs.Prelude.{ℕ, ◌<◌, [], get_or};
 ghost use Rattle.model.specs.Decides.{Decides};
 ghost use Rattle.model.specs.Graph.{Graph};
 ghost use Rattle.model.specs.Policies.{Admits, known};
 ghost use Rattle.network.specs.Worlds.{members_in, graph_in};
-ghost use Rattle.sets.specs.Rows.{FriendRow, row_of};
+ghost use Rattle.sets.specs.Rows.{FriendRow};
 ghost use Rattle.known.specs.Acquainted.{Acquainted};
 
 use network::World;
@@ -20,11 +20,11 @@ pub enum Acquaintance {
 }
 
 // The acquaintance of u with v, whose row is in the table.
-pub fn between(world: &World<'_>, rows: &[u64; 1024], u: usize, v: usize) -> Acquaintance
-    requires { (u < members_in world.now) × (v < members_in world.now) × FriendRow (graph_in world.now) v (row_of rows.now v) }
+pub fn between(world: &World<'_>, rows: &[[u64; 4]; 256], u: usize, v: usize) -> Acquaintance
+    requires { (u < members_in world.now) × (v < members_in world.now) × FriendRow (graph_in world.now) v (get_or rows.now v []) }
     ensures { Acquainted (graph_in world.now) u v result }
 {
-    let of_v = sets::row(rows, v);
+    let of_v = rows[v];
     if u == v || sets::has(of_v, u) {
         return Acquaintance::Close;
     }

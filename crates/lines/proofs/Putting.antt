@@ -11,10 +11,8 @@ use lib.Seq.{take-suc, drop-drop}
 use borrow.Author.Tests.{lt-ltb, le-ltb}
 use Rattle.io.specs.Digits.{last_digits, IsDigitCount}
 use Rattle.model.specs.Text.{digits_of, decimal, spaced, line_of}
-use Rattle.lines.specs.Put.{Put}
-
-pub put_none : {old : List ℕ} {at : ℕ} → at ≤ length old → Put old at [] at old
-put_none {old} {at} h = record { long = refl; size = omega arith; fits = h; front = sym (append-nil (take at old)); behind = refl }
+use Rattle.lines.specs.Put.{Put, Puts}
+use Rattle.lines.specs.declared.Text.{Text}
 
 -- the law by which all is put together
 pub put_then : {a b c s t : List ℕ} {i j k : ℕ} → Put a i s j b → Put b j t k c → Put a i (s ++ t) k c
@@ -76,17 +74,20 @@ spaced_append (x ∷ k) l = ap (λ (r : List ℕ). (32 ∷ decimal x) ++ r) (spa
 spaced_one : (x : ℕ) → spaced (x ∷ []) ≡ 32 ∷ decimal x
 spaced_one x = append-nil (32 ∷ decimal x)
 
-pub put_number_more : (numbers : List ℕ) (i : ℕ) {a b c : List ℕ} {at e r : ℕ} → i < length numbers → Put a at (spaced (take i numbers)) e b → Put b e (32 ∷ decimal (get_or numbers i 0)) r c → Put a at (spaced (take (i + 1) numbers)) r c
-put_number_more numbers i h p q =
-    rw (add-one i, take-suc numbers i 0 h, spaced_append (take i numbers) (get_or numbers i 0 ∷ []), spaced_one (get_or numbers i 0)) (put_then p q)
+pub puts_then : {x y z : Text} {s t : List ℕ} → Puts x s y → Puts y t z → Puts x (s ++ t) z
+puts_then p q = record { put = put_then p.put q.put; same_reference = q.same_reference ∙ p.same_reference }
+
+pub puts_number_more : (numbers : List ℕ) (i : ℕ) {x y z : Text} → i < length numbers → Puts x (spaced (take i numbers)) y → Puts y (32 ∷ decimal (get_or numbers i 0)) z → Puts x (spaced (take (i + 1) numbers)) z
+puts_number_more numbers i h p q =
+    rw (add-one i, take-suc numbers i 0 h, spaced_append (take i numbers) (get_or numbers i 0 ∷ []), spaced_one (get_or numbers i 0)) (puts_then p q)
 
 -- the four parts of a line
-pub put_line : (position answer : ℕ) (friends : List ℕ) {a b c d e : List ℕ} {at i j k r : ℕ}
-    → Put a at (decimal position) i b → Put b i (32 ∷ decimal answer) j c → Put c j (spaced friends) k d → Put d k (10 ∷ []) r e
-    → Put a at (line_of position answer friends) r e
+pub puts_line : (position answer : ℕ) (friends : List ℕ) {v w x y z : Text}
+    → Puts v (decimal position) w → Puts w (32 ∷ decimal answer) x → Puts x (spaced friends) y → Puts y (10 ∷ []) z
+    → Puts v (line_of position answer friends) z
 unfolding line_of
-put_line position answer friends p q s t =
-    rw (← append_assoc (decimal position) (32 ∷ decimal answer) (spaced friends)) (put_then (put_then (put_then p q) s) t)
+puts_line position answer friends p q s t =
+    rw (← append_assoc (decimal position) (32 ∷ decimal answer) (spaced friends)) (puts_then (puts_then (puts_then p q) s) t)
 
-pub put_as : {a b s t : List ℕ} {at r : ℕ} → Put a at s r b → s ≡ t → Put a at t r b
-put_as p e = rw e at p
+pub puts_as : {x y : Text} {s t : List ℕ} → Puts x s y → s ≡ t → Puts x t y
+puts_as p e = rw e at p

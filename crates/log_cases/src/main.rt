@@ -5,20 +5,11 @@
 
 use cases::Stop;
 use std::io;
-use std::io::Read;
 
-// Reads a case and prints its lines.
-fn run_case<R: Read>(
-    rt: &impl Print,
-    input: &mut R,
-    number: u64,
-    scheme: &mut [u8],
-    log: &mut [u8],
-) -> Result<(), Stop> {
-    let scheme_length = cases::read_part(input, scheme)?;
-    let log_length = cases::read_part(input, log)?;
+// Prints a case's lines.
+fn run_case(rt: &impl Print, number: u64, scheme: &[u8], log: &[u8]) -> Result<(), Stop> {
     let mut out = io::writer(rt);
-    if let Err(cut) = replay::print(&mut out, &scheme[..scheme_length], &log[..log_length]) {
+    if let Err(cut) = replay::print(&mut out, scheme, log) {
         return Err(Stop::Output(cut.error));
     }
     println!(rt; "end {number}")?;
@@ -26,8 +17,7 @@ fn run_case<R: Read>(
 }
 
 fn main(rt: HostRuntime) -> io::Result<()> {
-    let mut input = rt.reader();
-    let mut scheme = [0u8; 65536];
-    let mut log = [0u8; 65536];
-    cases::run(|number| run_case(&rt, &mut input, number, &mut scheme, &mut log))
+    cases::run(&mut rt.reader(), |_, number, scheme, log| {
+        run_case(&rt, number, scheme, log)
+    })
 }

@@ -1,8 +1,8 @@
 -- Rows as far as the members below go.
-use Rattle.std.specs.Prelude.{ℕ, ◌+◌, ◌-◌, ◌/◌, ◌%◌, ◌≤◌, ◌<◌, ◌≡◌, Bool, false, ◌&&◌, List, ◌⊎◌, ltb, length, get_or}
+use Rattle.std.specs.Prelude.{ℕ, ◌+◌, ◌-◌, ◌/◌, ◌%◌, ◌≤◌, ◌<◌, ◌≡◌, Bool, false, ◌&&◌, List, [], ◌⊎◌, ltb, length, get_or}
 use Rattle.model.specs.Bytes.{digit}
 use Rattle.model.specs.Graph.{Graph}
-use Rattle.sets.specs.Rows.{row_bit, row_of}
+use Rattle.sets.specs.Rows.{row_bit}
 use Rattle.columns.specs.Columns.{Columns}
 
 -- flags of the members below m
@@ -17,8 +17,8 @@ RowOfFlags flags row = (k : ℕ) → k < 256 → digit (get_or row (k / 64) 0) (
 
 -- the row has u's friends below a member, and no other
 pub record RowBelow (g : Graph) (u end : ℕ) (row : List ℕ) : Type 0 where
-  pub bits : (m : ℕ) → m < 256 → m < end → row_bit row m ≡ g.friends u m
-  pub none_above : (m : ℕ) → m < 256 → end ≤ m → row_bit row m ≡ false
+  pub bits : (m : ℕ) → m < end → row_bit row m ≡ g.friends u m
+  pub none_above : (m : ℕ) → end ≤ m → row_bit row m ≡ false
 
 -- whether m is a friend of the member that is t above from, and below it
 abbrev pub column_of : Graph → ℕ → ℕ → ℕ → Bool
@@ -26,9 +26,9 @@ column_of g from m t = ltb m (from + t) && g.friends m (from + t)
 
 -- the members from one on, below the end, have their rows as far as the members below each go; all other rows are as they were;
 -- the columns tell of these members
-pub record LowerRows (g : Graph) (from end : ℕ) (rows flags columns rows' : List ℕ) : Type 0 where
+pub record LowerRows (g : Graph) (from end : ℕ) (rows : List (List ℕ)) (flags columns : List ℕ) (rows' : List (List ℕ)) : Type 0 where
   pub long : length rows' ≡ length rows
-  pub each : (m : ℕ) → from ≤ m → m < end → RowBelow g m m (row_of rows' m)
-  pub kept : (m : ℕ) → (m < from) ⊎ (end ≤ m) → row_of rows' m ≡ row_of rows m
+  pub each : (m : ℕ) → from ≤ m → m < end → RowBelow g m m (get_or rows' m [])
+  pub kept : (m : ℕ) → (m < from) ⊎ (end ≤ m) → get_or rows' m [] ≡ get_or rows m []
   pub flagged : FlagsBelow end flags
   pub told : Columns (column_of g from) (end - from) columns

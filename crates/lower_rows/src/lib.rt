@@ -9,6 +9,7 @@ ghost use Rattle.columns.specs.Columns.{Columns};
 ghost use Rattle.lower_rows.specs.Lower.{FlagsBelow, RowOfFlags, column_of, LowerRows};
 
 use network::World;
+use std::array;
 
 // The word of a row from a member on, by the flags of the members below m.
 fn word(flags: &[u8; 256], from: usize, m: usize) -> u64
@@ -27,12 +28,7 @@ fn row(flags: &[u8; 256], m: usize) -> [u64; 4]
     requires { FlagsBelow m flags.now }
     ensures { RowOfFlags flags.now result }
 {
-    [
-        word(flags, 0, m),
-        word(flags, 64, m),
-        word(flags, 128, m),
-        word(flags, 192, m),
-    ]
+    array::from_fn(|w| word(flags, 64 * w, m))
 }
 
 // Writes the rows from a member on, as far as the members below each go, and adds each to the columns of these. Each pair byte is
@@ -43,7 +39,7 @@ pub fn fill(
     end: usize,
     flags: &mut [u8; 256],
     columns: &mut [u8; 256],
-    rows: &mut [u64; 1024],
+    rows: &mut [[u64; 4]; 256],
 )
     requires { (from ≤ end) × (end ≤ from + 8) × (end ≤ members_in world.now) × FlagsBelow from flags.old × Columns (column_of (graph_in world.now) from) 0 columns.old }
     ensures { LowerRows (graph_in world.now) from end rows.old flags.new columns.new rows.new }
@@ -51,7 +47,7 @@ pub fn fill(
     for m in from..end {
         let at = network::pairs(m);
         friend_flags::mark(world.scheme.counts.marks, &world.network[at..at + m], flags);
-        sets::put_row(rows, m, row(flags, m));
+        rows[m] = row(flags, m);
         columns::add(flags, m - from, m, columns);
     }
 }

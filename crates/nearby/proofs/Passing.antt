@@ -1,4 +1,4 @@
--- A loop over the members of a set, by first_from.
+-- A loop over the members of a set.
 use Prim.Native.Nat.{ℕ, ◌+◌, ◌<◌}
 use mathlib.Core.Path.{◌≡◌, sym, ◌∙◌}
 use mathlib.Core.Bool.{false≢true}

@@ -18,13 +18,12 @@ pub fn members(world: &World<'_>, friends: [u64; 4]) -> [u64; 4]
         return [!0; 4];
     }
     let mut all = [0; 4];
-    let mut from = 0;
-    while let Some(m) = sets::first_from(friends, from)
-        && m < world.members()
-    {
+    for m in sets::members(friends) {
+        if m >= world.members() {
+            break;
+        }
         let more = sets::join(all, rows::friend_row(world, m));
         all = more;
-        from = m + 1;
     }
     all
 }

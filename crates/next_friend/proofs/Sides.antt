@@ -28,15 +28,14 @@ pub next_placed : (above : Bool) (m k at apart : ℕ) → at ≡ place_on above 
 next_placed above m k at apart e p = ap (λ (x : ℕ). x + apart) e ∙ sym (p m)
 
 module _ {b net : List ℕ} {c : Summary} (h : Ready b c net) where
-  pub place_inside : (above : Bool) (m from k end : ℕ) → OnSide above m from end → from ≤ k → k < end → m < c.members → end ≤ c.members
+  pub place_inside : (above : Bool) (m k end : ℕ) → OnSide above m k end → k < end → m < c.members → end ≤ c.members
       → place_on above m k < length net
-  place_inside true m from k end o a d l s = pair_inside h m k (omega (arith, o)) (omega arith)
-  place_inside false m from k end o a d l s = pair_inside h k m (omega (arith, o)) l
+  place_inside true m k end o d l s = pair_inside h m k o (omega arith)
+  place_inside false m k end o d l s = pair_inside h k m (omega (arith, o)) l
 
-  pub place_friends : (above : Bool) (m from k end at : ℕ) {r : Bool} → OnSide above m from end → from ≤ k → k < end → m < c.members
-      → end ≤ c.members
+  pub place_friends : (above : Bool) (m k end at : ℕ) {r : Bool} → OnSide above m k end → k < end → m < c.members → end ≤ c.members
       → at ≡ place_on above m k
       → r ≡ bit c.marks (get_or net at 0 % 32)
-      → (r ≡ (graph_of b net).friends m k) × (r ≡ (graph_of b net).friends k m)
-  place_friends true m from k end at o a d l s e f = friends_byte h m k at (omega (arith, o)) (omega arith) e f
-  place_friends false m from k end at o a d l s e f = let (x, y) = friends_byte h k m at (omega (arith, o)) l e f in (y, x)
+      → r ≡ (graph_of b net).friends m k
+  place_friends true m k end at o d l s e f = (friends_byte h m k at o (omega arith) e f).0
+  place_friends false m k end at o d l s e f = (friends_byte h k m at (omega (arith, o)) l e f).1

@@ -4,8 +4,8 @@ ghost use Rattle.network.specs.Worlds.{members_in, graph_in};
 ghost use Rattle.next_friend.specs.Side.{OnSide};
 ghost use Rattle.next_friend.specs.Spread.{Marked, Run, Spread};
 
-use super::{place, step};
-use network::{World, marked};
+use super::side::Side;
+use network::World;
 
 // The mark for a friend; none for another.
 fn for_friend(friend: bool, mark: u16) -> u16
@@ -27,14 +27,10 @@ fn on_side<const ABOVE: bool>(
     requires { (m < members_in world.now) × (0 < mark) × (from ≤ end) × (end ≤ members_in world.now) × OnSide ABOVE m from end }
     ensures { Spread (graph_in world.now) (Run m from end) mark marks.old marks.new }
 {
-    let network = world.network;
-    let friendly = world.scheme.counts.marks;
-    let mut at = place::<ABOVE>(m, from);
-    for k in from..end {
+    for (k, friend) in Side::<ABOVE>::new(world, m, from, end) {
         if marks[k] == 0 {
-            marks[k] = for_friend(marked(friendly, network[at]), mark);
+            marks[k] = for_friend(friend, mark);
         }
-        at += step::<ABOVE>(k);
     }
 }
 

@@ -16,7 +16,10 @@ pub fn open<'a>(
 ) -> Result<World<'a>, Refusal>
     ensures { Opened scheme.entry.now network.entry.now v u result }
 {
-    let scheme = scheme::check(scheme)?;
+    let checked = scheme::check(scheme);
+    let Ok(scheme) = checked else {
+        return Err(checked.unwrap_err());
+    };
     if !validity::valid(&scheme, network) {
         return Err(Refusal::Network);
     }

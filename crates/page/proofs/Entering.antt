@@ -1,5 +1,5 @@
 -- The insertion, turn by turn.
-use Rattle.std.proofs.Common.{ℕ, zero, suc, zero-le, ◌+◌, ◌-◌, ◌<◌, ◌≤◌, ◌≡◌, refl, sym, ◌∙◌, ap, Bool, true, false, cond, List, [], ◌∷◌, ◌++◌, length, get_or, take, drop, set, arith, append_assoc, add-one}
+use Rattle.std.proofs.Common.{ℕ, zero, suc, ◌+◌, ◌-◌, ◌<◌, ◌≤◌, ◌≡◌, refl, sym, ◌∙◌, ap, Bool, true, false, cond, List, [], ◌∷◌, ◌++◌, length, get_or, take, drop, set, arith, append_assoc, add-one}
 use native.Mathlib.Decide.{dec_lt, ℕ_discrete}
 use mathlib.Core.Logic.{inl, inr}
 use Rattle.std.proofs.lemmas.Grind.{common_steps}
@@ -8,7 +8,7 @@ use lib.ListN.{drop_of_length-le}
 use Rattle.model.specs.Page.{All, Ordered, FirstOf}
 use Rattle.model.specs.Suggestions.{Earlier}
 use Rattle.model.proofs.Deciding.{is_so}
-use Rattle.model.proofs.Paging.{Below, insert, enter, insert_first, all_map, page_none, page_next, page_stays}
+use Rattle.model.proofs.Paging.{Below, insert, enter, insert_first, all_map, page_next, page_stays}
 use Rattle.model.proofs.Suggesting.{earlier, earlier_strict, is_earlier}
 use Rattle.page.specs.Pages.{rank_of, InOrder, Inserted, Entered, LastRank, Filled}
 

@@ -34,31 +34,43 @@ fn insert(page: &mut [u16], ranks: &[u32], m: u16) -> u16
     carried
 }
 
-// Puts m into the page in the first used of the places; who would stand behind them is dropped. How many are used then.
-fn enter(places: &mut [u16], used: usize, ranks: &[u32], m: u16) -> usize
-    requires free { used ≤ length places.old }
-    requires ranked { m < length ranks.now }
-    requires in_order { InOrder ranks.now (take used places.old) }
-    ensures { Entered ranks.now places.old used m result places.new }
-{
-    let carried = insert(&mut places[..used], ranks, m);
-    if used < places.len() {
-        places[used] = carried;
-        return used + 1;
-    }
-    used
+// The page in the first used of the places.
+#[derive(Drop)]
+struct Page<'a> {
+    places: &'a mut [u16],
+    used: usize,
+    ranks: &'a [u32],
 }
 
-// The rank that the next must exceed: that of the last on a full page, 0 while a place is free.
-fn last_rank(places: &[u16], used: usize, ranks: &[u32]) -> u32
-    requires fits { used ≤ length places.now }
-    requires in_order { InOrder ranks.now (take used places.now) }
-    ensures { LastRank ranks.now places.now used result }
-{
-    if 0 < used && used == places.len() {
-        return ranks[usize::from(places[used - 1])];
+impl Page<'_> {
+    // Puts m into its place; who would stand behind the places is dropped.
+    fn enter(&mut self, m: u16)
+        requires free { self.old.used ≤ length self.old.places.now }
+        requires ranked { m < length self.old.ranks.now }
+        requires in_order { InOrder self.old.ranks.now (take self.old.used self.old.places.now) }
+        ensures entered { Entered self.old.ranks.now self.old.places.now self.old.used m self.new.used self.new.places.now }
+        ensures same_places { self.new.places.ghost_name ≡ self.old.places.ghost_name }
+        ensures same_ranks { self.new.ranks ≡ self.old.ranks }
+    {
+        let used = self.used;
+        let carried = insert(&mut self.places[..used], self.ranks, m);
+        if used < self.places.len() {
+            self.places[used] = carried;
+            self.used += 1;
+        }
     }
-    0
+
+    // The rank that the next must exceed: that of the last on a full page, 0 while a place is free.
+    fn last_rank(&self) -> u32
+        requires fits { self.now.used ≤ length self.now.places.now }
+        requires in_order { InOrder self.now.ranks.now (take self.now.used self.now.places.now) }
+        ensures { LastRank self.now.ranks.now self.now.places.now self.now.used result }
+    {
+        if 0 < self.used && self.used == self.places.len() {
+            return self.ranks[usize::from(self.places[self.used - 1])];
+        }
+        0
+    }
 }
 
 // Writes the page of the members with a rank above 0 into the places. How many it wrote.
@@ -66,16 +78,20 @@ fn fill_places(places: &mut [u16], ranks: &[u32]) -> usize
     requires { length ranks.now ≤ 65536 }
     ensures { Filled ranks.now places.old (length places.old) (length ranks.now) result places.new }
 {
-    let mut used = 0;
+    let mut page = Page {
+        places,
+        used: 0,
+        ranks,
+    };
     // Members come by rising number: with a rank no greater than the last one's, m stands behind a full page.
     let mut least = 0;
     for (m, &rank) in ranks.iter().enumerate() {
         if rank > least {
-            used = enter(places, used, ranks, m as u16);
-            least = last_rank(places, used, ranks);
+            page.enter(m as u16);
+            least = page.last_rank();
         }
     }
-    used
+    page.used
 }
 
 // Writes the page of the members with a rank above 0, as many as wanted. How many it wrote.

@@ -1,10 +1,8 @@
 -- What the policies of a scheme read.
 use Prim.Native.Nat.{ℕ, ◌+◌, ◌≤◌, zero-le}
-use mathlib.Core.Bool.{Bool, false, ◌||◌}
-use mathlib.Core.Path.{◌≡◌, refl, sym, ◌∙◌}
+use mathlib.Core.Path.{◌≡◌, sym, ◌∙◌}
 use mathlib.Core.List.{List}
-use mathlib.Core.Logic.{◌⊎◌, inl, inr, ⊎_elim}
-use lib.Dec.{eqb}
+use mathlib.Core.Logic.{inl, inr, ⊎_elim}
 use native.Mathlib.Omega.{arith}
 use native.Mathlib.Decide.{ℕ_discrete, dec_le}
 use Rattle.std.specs.Prelude.{max}
@@ -12,8 +10,7 @@ use Rattle.model.specs.Policies.{Policy, within}
 use Rattle.model.specs.SchemeBytes.{scheme_of}
 use Rattle.rules.specs.declared.Rule.{Rule}
 use Rattle.rules.specs.declared.Rule.TheVariants.{NoOne, Everyone, Owner, Within, Known, Clique, State, Both, Either}
-use Rattle.rules.specs.Rules.{policy_of_rule, kind_of, RuleAt}
-use Rattle.model.proofs.Deciding.{Says, says, iff, disj, is_eq}
+use Rattle.rules.specs.Rules.{policy_of_rule, RuleAt}
 use Rattle.prepared.specs.Reading.{Farthest, SomeOfKind}
 
 -- the rule of a policy of kind within

@@ -8,7 +8,7 @@ pub struct Accessor<'a> {
     pub world: &'a World<'a>,
     pub v: usize,
     pub distances: &'a [u16; 256],
-    pub rows: &'a [u64; 1024],
+    pub rows: &'a [[u64; 4]; 256],
 }
 
 impl<'a> Model for Accessor<'a> {
@@ -33,7 +33,7 @@ impl<'a> Accessor<'a> {
         world: &'a World<'a>,
         v: usize,
         distances: &'a [u16; 256],
-        rows: &'a [u64; 1024],
+        rows: &'a [[u64; 4]; 256],
     ) -> Accessor<'a>
         requires { (v < world.now.scheme.counts.members) × Prepared world.now.scheme.bytes.now world.now.network.now v distances.now rows.now }
         ensures { (result.scheme ≡ world.entry.now.scheme.bytes.now) × (result.network ≡ world.entry.now.network.now) × (result.v ≡ v) }

@@ -65,7 +65,7 @@ fn measure(world: &World<'_>, v: usize, distances: &mut [u16; 256])
 }
 
 // Computes what depends on accessor v alone, as far as a policy of the scheme reads it.
-pub fn prepare(world: &World<'_>, v: usize, distances: &mut [u16; 256], rows: &mut [u64; 1024])
+pub fn prepare(world: &World<'_>, v: usize, distances: &mut [u16; 256], rows: &mut [[u64; 4]; 256])
     requires { v < members_in world.now }
     ensures prepared { Prepared world.now.scheme.bytes.now world.now.network.now v distances.new rows.new }
     ensures written { Written world.now.scheme.bytes.now world.now.network.now v distances.old rows.old distances.new rows.new }
@@ -75,6 +75,6 @@ pub fn prepare(world: &World<'_>, v: usize, distances: &mut [u16; 256], rows: &m
     if some.clique {
         row_table::fill_rows(world, rows);
     } else if some.known {
-        sets::put_row(rows, v, rows::friend_row(world, v));
+        rows[v] = rows::friend_row(world, v);
     }
 }

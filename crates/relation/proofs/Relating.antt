@@ -43,7 +43,7 @@ pub near_read : {g : Graph} {v limit : ℕ} {distances : List ℕ} {x : Option �
 near_read {g} {v} {limit} {x = x} d u k l h e = distance_within g limit u v x k h (read_distance d u l e)
 
 -- the size, of all rows, is that of the largest clique
-pub sized_by : {b net rows : List ℕ} {c : Summary} {u v size : ℕ} → Ready b c net → AllRows (graph_of b net) rows → CliqueSize rows u v size
+pub sized_by : {b net : List ℕ} {rows : List (List ℕ)} {c : Summary} {u v size : ℕ} → Ready b c net → AllRows (graph_of b net) rows → CliqueSize rows u v size
     → u < c.members
     → v < c.members
     → (u ≡ v → ⊥)

@@ -70,7 +70,7 @@ fn clique_of_friends(world: &World<'_>, u: usize, v: usize) -> usize
     if five_at_once(world, u, v) {
         return 5;
     }
-    let mut rows = [0; 1024];
+    let mut rows = [[0; 4]; 256];
     row_table::fill_rows(world, &mut rows);
     clique::largest(&rows, u, v)
 }

@@ -9,11 +9,9 @@ use lib.ListN.{length}
 use Rattle.std.specs.Prelude.{Ok}
 use Rattle.model.specs.Text.{start}
 use Rattle.model.proofs.Texts.{text_once}
-use Rattle.fresh_start.specs.Stands.{Stepped}
-use Rattle.fresh_start.specs.declared.Stand.{Stand}
-use Rattle.fresh_start.specs.declared.Filled.{Filled}
+use Rattle.fresh_start.specs.Stands.{Moment, Stepped}
 use Rattle.fresh_start.proofs.Once.{stepped_once}
-use Rattle.replay.specs.Fills.{Moment, unfilled, Goes, Steps, Fills, Printed}
+use Rattle.replay.specs.Fills.{Goes, Steps, Fills, Printed}
 
 module _ (b log : List ℕ) where
   -- equally many steps from a moment lead to one
@@ -21,11 +19,9 @@ module _ (b log : List ℕ) where
   steps_once zero m n o e f = sym e ∙ f
   steps_once (suc k) m n o (at, s, _, one) (there, t, _, other) =
       let e : there ≡ at = steps_once k m there at t s in
-      let (f, net, buffer) = stepped_once one (same_from e other) in
-      λ i. record { filled = f i; network = net i; buffer = buffer i }
+      stepped_once one (same_from e other)
     where
-      same_from : {x y : Moment} → x ≡ y → Stepped b log x.network x.buffer x.filled.used x.filled.stand o.filled o.network o.buffer
-          → Stepped b log y.network y.buffer y.filled.used y.filled.stand o.filled o.network o.buffer
+      same_from : {x y : Moment} → x ≡ y → Stepped b log x o → Stepped b log y o
       same_from e h = rw e at h
 
   same_count : (j k : ℕ) (m n : Moment) → j ≡ k → Steps b log j m n → Steps b log k m n
@@ -54,13 +50,8 @@ module _ (b log : List ℕ) where
       ]
 
   -- where the program stands, how much of the buffer is used, and every lent byte
-  pub fills_once : {net old net' net'' after after' : List ℕ} {from : Stand} {to to' : Filled} → Fills b log net old from to net' after → Fills b log net old from to' net'' after'
-      → (to ≡ to') × (net' ≡ net'') × (after ≡ after')
-  fills_once {net} {old} {net'} {net''} {after} {after'} {from} {to} {to'} f g =
-      let one : Moment = record { filled = to; network = net'; buffer = after } in
-      let other : Moment = record { filled = to'; network = net''; buffer = after' } in
-      let e : one ≡ other = stopped_once f.count g.count (unfilled from net old) one other f.steps f.stops g.steps g.stops in
-      (λ i. (e i).filled, λ i. (e i).network, λ i. (e i).buffer)
+  pub fills_once : {from to to' : Moment} → Fills b log from to → Fills b log from to' → to ≡ to'
+  fills_once {from} {to} {to'} f g = stopped_once f.count g.count from to to' f.steps f.stops g.steps g.stops
 
 pub printed_once : (b log : List ℕ) (n n' : ℕ) → Printed b log (Ok n) → Printed b log (Ok n') → n ≡ n'
 printed_once b log n n' (t, e, h) (t', e', h') =

@@ -1,23 +1,22 @@
 -- The loop of `print_by`, turn by turn.
 use Prim.Native.Nat.{ℕ, ◌+◌, ◌*◌, ◌≤◌, ◌<◌}
-use mathlib.Core.Path.{◌≡◌, refl, ◌∙◌}
-use mathlib.Core.List.{List, [], ◌++◌}
+use mathlib.Core.Path.{◌≡◌, ◌∙◌, ap}
+use mathlib.Core.List.{List, ◌++◌}
 use native.Mathlib.Omega.{arith}
 use lib.ListN.{length, take, length-append}
 use lib.Seq.{length-take-le}
 use Rattle.model.specs.Text.{start, over, Prints, ReadOf, Text}
-use Rattle.model.proofs.Texts.{Bounded, bounded, prints_none, prints_then, whole_text}
-use Rattle.fresh_start.specs.Stands.{state_of, Sized, Ready}
+use Rattle.model.proofs.Texts.{Bounded, bounded, prints_then, whole_text}
+use Rattle.fresh_start.specs.Stands.{state_of, Sized, Ready, Moment}
 use Rattle.fresh_start.specs.declared.Stand.{Stand}
 use Rattle.fresh_start.specs.declared.Stand.TheVariants.{Start, At, Over}
-use Rattle.fresh_start.specs.declared.Filled.{Filled}
 use Rattle.replay.specs.declared.Cut.{Cut}
 use Rattle.std.specs.Prelude.{Option, Ok, Err}
 use Rattle.std.specs.Io.KnownBytes.{Appends}
-use Rattle.std.proofs.KnownBytes.{Appends-nil, Appends-trans}
+use Rattle.std.proofs.KnownBytes.{Appends-trans}
 use Rattle.replay.specs.Fills.{IsOver, Fills, Gives, Printed, Handed}
 use Rattle.replay.proofs.Ranking.{rank, prints_less}
-use Rattle.replay.proofs.Filling.{Filling, filling}
+use Rattle.replay.proofs.Filling.{Reached, reached, moved}
 
 -- what was handed over so far, to a writer that was given what it was given before and this
 pub record Sent (before now : Option (List ℕ)) (b log net : List ℕ) (here : Stand) (written : ℕ) : Type 0 where
@@ -35,49 +34,57 @@ go_on b log net Start lent n s l = s
 go_on b log net (At place position count) lent n s (l, p, q) = (omega arith, s)
 go_on b log net Over lent n s l = absurd (n tt)
 
-module _ {before now : Option (List ℕ)} {b log net old net' after : List ℕ} {here : Stand} {to : Filled} {written : ℕ} (s : Sent before now b log net here written) (fills : Fills b log net old here to net' after) where
-  f : Filling b log net old here to net' after
-  f = filling b log fills
+module _ {before now : Option (List ℕ)} {b log : List ℕ} {m n : Moment} {written : ℕ} (s : Sent before now b log m.network m.stand written) (fills : Fills b log m n) (empty : m.used ≡ 0) where
+  r : Reached b log fills.count m n
+  r = reached b log fills.count m n fills.steps
 
-  module _ (n : IsOver here → ⊥) (room : 1548 ≤ length old) where
+  -- what is used is inside the buffer
+  pub within_buffer : n.used ≤ length n.buffer
+  within_buffer = r.fits (omega arith)
+
+  prints : Prints b log fills.count (state_of m.stand m.network) (take n.used n.buffer) (state_of n.stand n.network)
+  prints = rw whole r.prints
+    where
+      whole : take n.used n.buffer ≡ r.text
+      whole = r.front ∙ ap (λ (k : ℕ). take k m.buffer ++ r.text) empty
+
+  module _ (go : IsOver m.stand → ⊥) (room : 1548 ≤ length m.buffer) where
     -- each buffer takes the program further
-    pub fewer : rank b log (state_of to.stand net') < rank b log (state_of here net)
+    pub fewer : rank b log (state_of n.stand n.network) < rank b log (state_of m.stand m.network)
     fewer =
-        let m = f.moves (go_on b log net here (length net) n s.sized (bounded b log s.count start (state_of here net) s.text tt s.prints), room) in
-        omega (arith, m, prints_less b log f.count (state_of here net) (state_of to.stand net') (take to.used after) f.prints)
+        let ready = go_on b log m.network m.stand (length m.network) go s.sized (bounded b log s.count start (state_of m.stand m.network) s.text tt s.prints) in
+        let moves = moved b log fills.count m n fills.steps fills.stops (ready, omega arith) in
+        omega (arith, moves, prints_less b log fills.count (state_of m.stand m.network) (state_of n.stand n.network) (take n.used n.buffer) prints)
 
-    pub small_more : length after ≡ length old → length old ≤ 65536 → (written + length (take to.used after)) + 65536 * rank b log (state_of to.stand net') ≤ 65536 * 16387
-    small_more same small = omega (arith, s.small, fewer, f.fits, used)
-      where
-        used : length (take to.used after) ≡ to.used
-        used = length-take-le to.used after (omega (arith, f.fits, same))
+    pub small_more : length m.buffer ≤ 65536 → (written + length (take n.used n.buffer)) + 65536 * rank b log (state_of n.stand n.network) ≤ 65536 * 16387
+    small_more small = omega (arith, s.small, fewer, within_buffer, r.long, length-take-le n.used n.buffer within_buffer)
 
-    pub sent_more : {then : Option (List ℕ)} → length after ≡ length old → length old ≤ 65536 → Appends now then (take to.used after)
-        → Sent before then b log net' to.stand (written + length (take to.used after))
-    sent_more {then} same small given = record {
-      text = s.text ++ take to.used after;
-      count = s.count + f.count;
-      prints = prints_then b log s.count f.count start (state_of here net) (state_of to.stand net') s.text (take to.used after) s.prints f.prints;
-      bytes = omega (arith, s.bytes, length-append s.text (take to.used after));
-      given = Appends-trans before now then s.text (take to.used after) s.given given;
-      sized = f.sized s.sized;
-      small = small_more same small;
+    pub sent_more : {then : Option (List ℕ)} → length m.buffer ≤ 65536 → Appends now then (take n.used n.buffer)
+        → Sent before then b log n.network n.stand (written + length (take n.used n.buffer))
+    sent_more {then} small given = record {
+      text = s.text ++ take n.used n.buffer;
+      count = s.count + fills.count;
+      prints = prints_then b log s.count fills.count start (state_of m.stand m.network) (state_of n.stand n.network) s.text (take n.used n.buffer) s.prints prints;
+      bytes = omega (arith, s.bytes, length-append s.text (take n.used n.buffer));
+      given = Appends-trans before now then s.text (take n.used n.buffer) s.given given;
+      sized = r.sized s.sized;
+      small = small_more small;
     }
 
   -- a write failed
-  pub sent_cut : {then : Option (List ℕ)} (cut : Cut) → cut.written ≡ written → Gives now then (take to.used after) (Err cut) → Handed before then b log (Err cut)
+  pub sent_cut : {then : Option (List ℕ)} (cut : Cut) → cut.written ≡ written → Gives now then (take n.used n.buffer) (Err cut) → Handed before then b log (Err cut)
   sent_cut {then} cut same part = (
     s.text,
     same ∙ s.bytes,
     s.count,
-    state_of here net,
+    state_of m.stand m.network,
     s.prints,
-    take to.used after,
-    f.count,
-    state_of to.stand net',
-    f.prints,
+    take n.used n.buffer,
+    fills.count,
+    state_of n.stand n.network,
+    prints,
     part.count,
-    Appends-trans before now then s.text (take part.count (take to.used after)) s.given part.appends,
+    Appends-trans before now then s.text (take part.count (take n.used n.buffer)) s.given part.appends,
   )
 
 ended : (b log net : List ℕ) (here : Stand) (count : ℕ) (text : List ℕ) → IsOver here → Prints b log count start text (state_of here net) → Prints b log count start text over

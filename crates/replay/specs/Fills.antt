@@ -3,10 +3,9 @@ use Rattle.std.specs.Prelude.{ℕ, zero, suc, ◌+◌, ◌≤◌, ◌≡◌, Lis
 use Rattle.std.specs.Io.KnownBytes.{Appends}
 use Rattle.files.specs.Transfers.{Given}
 use Rattle.model.specs.Text.{State, start, Prints, TextFrom, Text, ReadOf}
-use Rattle.fresh_start.specs.Stands.{state_of, Ready, Stepped}
+use Rattle.fresh_start.specs.Stands.{state_of, Ready, Moment, Stepped}
 use Rattle.fresh_start.specs.declared.Stand.{Stand}
 use Rattle.fresh_start.specs.declared.Stand.TheVariants.{Start, At, Over}
-use Rattle.fresh_start.specs.declared.Filled.{Filled}
 use Rattle.replay.specs.declared.Cut.{Cut}
 
 abbrev pub IsOver : Stand → Type 0
@@ -14,43 +13,30 @@ IsOver Start = ⊥
 IsOver (At place position count) = ⊥
 IsOver Over = Unit {0}
 
--- where the program stands, and the bytes lent for the network and for the text
-pub record Moment : Type 0 where
-  pub filled : Filled
-  pub network : List ℕ
-  pub buffer : List ℕ
-
--- before anything is put into the buffer
-abbrev pub unfilled : Stand → List ℕ → List ℕ → Moment
-unfilled from net old = record { filled = record { stand = from; used = 0 }; network = net; buffer = old }
-
 -- there is a next step, and room for a longest line
 abbrev pub Goes : Moment → Type 0
-Goes m = Ready m.filled.stand (length m.network) × (m.filled.used + 1548 ≤ length m.buffer)
+Goes m = Ready m.stand (length m.network) × (m.used + 1548 ≤ length m.buffer)
 
 module _ (b log : List ℕ) where
   -- so many steps, each where the program goes on
   abbrev pub Steps : ℕ → Moment → Moment → Type 0
   Steps zero m n = m ≡ n
-  Steps (suc k) m n =
-      (at : Moment)
-      × Steps k m at
-      × Goes at
-      × Stepped b log at.network at.buffer at.filled.used at.filled.stand n.filled n.network n.buffer
+  Steps (suc k) m n = (at : Moment) × Steps k m at × Goes at × Stepped b log at n
 
-  -- from the front of the buffer on, as many steps as there are and surely fit
-  pub record Fills (net old : List ℕ) (from : Stand) (to : Filled) (net' after : List ℕ) : Type 0 where
+  -- behind what was used of the buffer, as many steps as there are and surely fit
+  pub record Fills (from to : Moment) : Type 0 where
     pub count : ℕ
-    pub steps : Steps count (unfilled from net old) (record { filled = to; network = net'; buffer = after })
-    pub stops : Goes (record { filled = to; network = net'; buffer = after }) → ⊥
+    pub steps : Steps count from to
+    pub stops : Goes to → ⊥
 
--- what was written and the text from where it stands are the text from where it stood; at the start that is the whole text, at the end nothing
+-- what was used, and the text from where it stood, are what is used and the text from where it stands; at the start that is the whole
+-- text, at the end nothing
 abbrev pub Continued : Type 0
 Continued =
-    (b log net old : List ℕ) (from : Stand) (to : Filled) (net' after text rest : List ℕ) → Fills b log net old from to net' after
-    → TextFrom b log (state_of from net) text
-    → TextFrom b log (state_of to.stand net') rest
-    → (text ≡ take to.used after ++ rest) × (to.stand ≡ Over → rest ≡ [])
+    (b log : List ℕ) (from to : Moment) (text rest : List ℕ) → Fills b log from to
+    → TextFrom b log (state_of from.stand from.network) text
+    → TextFrom b log (state_of to.stand to.network) rest
+    → (take from.used from.buffer ++ text ≡ take to.used to.buffer ++ rest) × (to.stand ≡ Over → rest ≡ [])
 
 -- a write hands over all of its bytes, or fails and adds none
 abbrev pub Adds : ℕ → ℕ → Result ℕ Cut → Type 0

@@ -4,10 +4,11 @@
 
 ghost use Rattle.std.specs.Prelude.{◌≡◌, ◌+◌, ◌≤◌, length};
 ghost use Rattle.model.specs.Decides.{Decides};
-ghost use Rattle.fresh_start.specs.Stands.{Ready};
+ghost use Rattle.fresh_start.specs.Stands.{Ready, moment};
 ghost use Rattle.replay.specs.Fills.{IsOver, Fills, Adds, Gives, Printed, Handed, Continued};
 
-use fresh_start::{Filled, Stand};
+use fresh_start::Stand;
+use lines::Text;
 use std::error::Error;
 use std::io::Write;
 use std::{fmt, io};
@@ -27,33 +28,34 @@ impl fmt::Display for Cut {
 
 impl Error for Cut {}
 
-// Whether there is a next step, and room for it: so many bytes are lent for the network, and so many for the text.
-fn ready(here: Filled, network: usize, buffer: usize) -> bool
-    ensures { Decides result (Ready here.stand network × (here.used + 1548 ≤ buffer)) }
+// Whether there is a next step, where so many bytes are lent for the network, and so many are free for its line.
+fn ready(here: Stand, network: usize, room: usize) -> bool
+    ensures { Decides result (Ready here network × (1548 ≤ room)) }
 {
-    if buffer < 1548 {
+    if room < 1548 {
         return false;
     }
-    if buffer - 1548 < here.used {
-        return false;
-    }
-    match here.stand {
+    match here {
         Stand::Start => network >= 39296,
         Stand::At(_, position, size) => position < 65535 && size <= network,
         Stand::Over => false,
     }
 }
 
-// Writes as many whole lines as surely fit, from where it stands on.
-pub fn fill(scheme: &[u8], log: &[u8], network: &mut [u8], buffer: &mut [u8], from: Stand) -> Filled
-    ensures { Fills scheme.now log.now network.old buffer.old from result network.new buffer.new }
+// Puts as many whole lines as surely fit, from where it stands on. Where it stands then.
+pub fn fill(
+    scheme: &[u8],
+    log: &[u8],
+    network: &mut [u8],
+    text: &mut Text<'_>,
+    from: Stand,
+) -> Stand
+    ensures fills { Fills scheme.now log.now (moment from network.old text.old) (moment result network.new text.new) }
+    ensures same_reference { text.new.buffer.ghost_name ≡ text.old.buffer.ghost_name }
 {
-    let mut here = Filled {
-        stand: from,
-        used: 0,
-    };
-    while ready(here, network.len(), buffer.len()) {
-        here = steps::step(scheme, log, network, buffer, here);
+    let mut here = from;
+    while ready(here, network.len(), text.room()) {
+        here = steps::step(scheme, log, network, text, here);
     }
     here
 }
@@ -91,10 +93,9 @@ fn print_by<W: Write>(
     let mut here = Stand::Start;
     let mut written: u64 = 0;
     while !over(here) {
-        let filled = fill(scheme, log, network, buffer, here);
-        let used = filled.used;
-        written = write(out, &buffer[..used], written)?;
-        here = filled.stand;
+        let mut text = Text::new(buffer);
+        here = fill(scheme, log, network, &mut text, here);
+        written = write(out, text.as_bytes(), written)?;
     }
     Ok(written)
 }

@@ -89,23 +89,19 @@ fn run_case<R: Read>(
     rt: &impl Print,
     input: &mut R,
     number: u64,
-    scheme: &mut [u8],
+    scheme: &[u8],
     network: &mut [u8],
 ) -> Result<(), Stop> {
-    let scheme_length = cases::read_part(input, scheme)?;
-    let network_length = cases::read_part(input, network)?;
-    let network = &mut network[..network_length];
     let count = cases::read_number(input)?;
     for place in 1..=count {
-        run_request(rt, input, number, place, &scheme[..scheme_length], network)?;
+        run_request(rt, input, number, place, scheme, network)?;
     }
     println!(rt; "{number} sum {}", cases::sum(network))?;
     Ok(())
 }
 
 fn main(rt: HostRuntime) -> io::Result<()> {
-    let mut input = rt.reader();
-    let mut scheme = [0u8; 65536];
-    let mut network = [0u8; 65536];
-    cases::run(|number| run_case(&rt, &mut input, number, &mut scheme, &mut network))
+    cases::run(&mut rt.reader(), |input, number, scheme, network| {
+        run_case(&rt, input, number, scheme, network)
+    })
 }

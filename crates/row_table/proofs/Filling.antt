@@ -1,20 +1,19 @@
 -- The table of all rows, eight members at a time.
-use Prim.Native.Nat.{ℕ, ◌+◌, ◌-◌, ◌/◌, ◌%◌, ◌≤◌, ◌<◌, min}
+use Prim.Native.Nat.{ℕ, ◌+◌, ◌-◌, ◌≤◌, ◌<◌, min}
 use mathlib.Core.Path.{◌≡◌, refl, sym, subst, ◌∙◌}
 use mathlib.Core.Bool.{Bool, false, ◌||◌, or-false}
-use mathlib.Core.List.{List}
+use mathlib.Core.List.{List, []}
 use mathlib.Core.Logic.{◌⊎◌, inl, inr, ⊎_elim}
 use native.Mathlib.Decide.{dec_lt}
 use native.Mathlib.Omega.{arith}
 use borrow.Author.Tests.{lt-ltb, le-ltb}
-use lib.ListN.{length, get_or, get_or-eq_default}
+use lib.ListN.{length, get_or}
 use Rattle.model.specs.Bytes.{bit}
 use Rattle.model.specs.SchemeBytes.{n as members}
-use Rattle.model.proofs.Bits.{digit_of_zero, bit_no}
 use Rattle.model.proofs.Sets.{Built, built_none}
 use Rattle.network.specs.Ready.{graph_of}
 use Rattle.network.proofs.Reading.{friends_own, friends_outside}
-use Rattle.sets.specs.Rows.{row_bit, row_of, FriendRow}
+use Rattle.sets.specs.Rows.{row_bit, FriendRow}
 use Rattle.columns.specs.Columns.{Columns, ByteAdded, ColumnsPut}
 use Rattle.lower_rows.specs.Lower.{FlagsBelow, RowBelow, column_of, LowerRows}
 use Rattle.row_table.specs.Filled.{RowsFilled}
@@ -47,35 +46,35 @@ module _ (b net : List ℕ) where
         go (yes d) = told.has t d ∙ rw (le-ltb m (from + t) l)
         go (no d) = told.none_above t (omega arith)
 
-    here : (t : ℕ) → t < 8 → from + t < 256 → row_bit row' (from + t) ≡ (graph_of b net).friends m (from + t)
-    here t h s = add.here t h ∙ go (dec_lt (from + t) k) (dec_lt m (from + t))
+    here : (t : ℕ) → t < 8 → row_bit row' (from + t) ≡ (graph_of b net).friends m (from + t)
+    here t h = add.here t h ∙ go (dec_lt (from + t) k) (dec_lt m (from + t))
       where
         go : Dec (from + t < k) → Dec (m < from + t) → (row_bit row (from + t) || bit x t) ≡ (graph_of b net).friends m (from + t)
-        go (yes d) e = rw (none t (low (from + t) (omega arith) d)) (or-false (row_bit row (from + t)) ∙ below.bits (from + t) s d)
-        go (no d) (yes e) = rw (below.none_above (from + t) s (omega arith)) (column t e h)
+        go (yes d) e = rw (none t (low (from + t) (omega arith) d)) (or-false (row_bit row (from + t)) ∙ below.bits (from + t) d)
+        go (no d) (yes e) = rw (below.none_above (from + t) (omega arith)) (column t e h)
         go (no d) (no e) =
             let own : m ≡ from + t = omega (arith, high (from + t) (omega arith)) in
-            rw (below.none_above (from + t) s (omega arith)) (none t (omega arith) ∙ sym (friends_own b net m (from + t) own))
+            rw (below.none_above (from + t) (omega arith)) (none t (omega arith) ∙ sym (friends_own b net m (from + t) own))
 
     grown : RowBelow (graph_of b net) m (from + 8) row'
-    grown = record { bits = λ p s l. bits p s l (dec_lt p from); none_above = λ p s l. add.above p l s ∙ below.none_above p s (omega arith) }
+    grown = record { bits = λ p l. bits p l (dec_lt p from); none_above = λ p l. add.above p l ∙ below.none_above p (omega arith) }
       where
-        bits : (p : ℕ) → p < 256 → p < from + 8 → Dec (p < from) → row_bit row' p ≡ (graph_of b net).friends m p
-        bits p s l (yes d) = add.below p d ∙ below.bits p s (omega arith)
-        bits p s l (no d) =
+        bits : (p : ℕ) → p < from + 8 → Dec (p < from) → row_bit row' p ≡ (graph_of b net).friends m p
+        bits p l (yes d) = add.below p d ∙ below.bits p (omega arith)
+        bits p l (no d) =
             let e : from + (p - from) ≡ p = omega arith in
-            subst (λ (x : ℕ). row_bit row' x ≡ (graph_of b net).friends m x) e (here (p - from) (omega arith) (omega arith))
+            subst (λ (x : ℕ). row_bit row' x ≡ (graph_of b net).friends m x) e (here (p - from) (omega arith))
 
   -- the members below one have their rows as far as it; the rows of no member are as they were
-  pub record Table (from : ℕ) (rows₀ rows : List ℕ) : Type 0 where
+  pub record Table (from : ℕ) (rows₀ rows : List (List ℕ)) : Type 0 where
     pub long : length rows ≡ length rows₀
-    pub each : (m : ℕ) → m < from → m < members b → RowBelow (graph_of b net) m from (row_of rows m)
-    pub kept : (m : ℕ) → members b ≤ m → row_of rows m ≡ row_of rows₀ m
+    pub each : (m : ℕ) → m < from → m < members b → RowBelow (graph_of b net) m from (get_or rows m [])
+    pub kept : (m : ℕ) → members b ≤ m → get_or rows m [] ≡ get_or rows₀ m []
 
-  pub table_none : (rows : List ℕ) → Table 0 rows rows
+  pub table_none : (rows : List (List ℕ)) → Table 0 rows rows
   table_none rows = record { long = refl; each = λ m h. absurd (omega arith); kept = λ m h. refl }
 
-  module _ {from end : ℕ} {rows₀ rows rows₁ rows₂ flags columns columns' : List ℕ} (e : end ≡ min (members b) (from + 8)) (some : from < members b) (few : members b ≤ 256)
+  module _ {from end : ℕ} {rows₀ rows rows₁ rows₂ : List (List ℕ)} {flags columns columns' : List ℕ} (e : end ≡ min (members b) (from + 8)) (some : from < members b) (few : members b ≤ 256)
       (table : Table from rows₀ rows)
       (lower : LowerRows (graph_of b net) from end rows flags columns rows₁)
       (put : ColumnsPut columns from end rows₁ columns' rows₂) where
@@ -93,7 +92,7 @@ module _ (b net : List ℕ) where
       kept = λ m h. put.kept m (omega arith) ∙ lower.kept m (inr (omega arith)) ∙ table.kept m h;
     }
       where
-        each : (m : ℕ) → m < from + 8 → m < members b → Dec (m < from) → RowBelow (graph_of b net) m (from + 8) (row_of rows₂ m)
+        each : (m : ℕ) → m < from + 8 → m < members b → Dec (m < from) → RowBelow (graph_of b net) m (from + 8) (get_or rows₂ m [])
         each m h i (yes d) =
             grown from ends (omega arith) (omega arith) (λ p x y. absurd (omega arith)) (λ p x. omega arith) (rw (lower.kept m (inl d)) (table.each m d i)) (lower.told.each m (omega arith)) (put.each m (omega arith))
         each m h i (no d) =
@@ -116,27 +115,15 @@ module _ (b net : List ℕ) where
     pub eight_more : Table (from + 8) rows₀ rows₂ × FlagsBelow (from + 8) flags × Columns (column_of (graph_of b net) (from + 8)) 0 columns'
     eight_more = (table_more, flags_more, columns_empty)
 
-  row_end : (rows : List ℕ) (m p : ℕ) → 256 ≤ p → row_bit (row_of rows m) p ≡ false
-  row_end rows m p h =
-      let z : get_or (row_of rows m) (p / 64) 0 ≡ 0 = get_or-eq_default (row_of rows m) 0 {n = p / 64} (omega arith) in
-      rw z (bit_no 0 (p % 64) (digit_of_zero (p % 64)))
-
-  pub table_whole : {from : ℕ} {rows₀ rows : List ℕ} → members b ≤ from → members b ≤ 256 → Table from rows₀ rows → RowsFilled (graph_of b net) rows₀ rows
-  table_whole {from} {rows₀} {rows} h few t = record { long = t.long; each = each; kept = t.kept }
+  pub table_whole : {from : ℕ} {rows₀ rows : List (List ℕ)} → members b ≤ from → Table from rows₀ rows → RowsFilled (graph_of b net) rows₀ rows
+  table_whole {from} {rows₀} {rows} h t = record { long = t.long; each = each; kept = t.kept }
     where
-      each : (m : ℕ) → m < members b → FriendRow (graph_of b net) m (row_of rows m)
-      each m l = record { bits = bits; none_above = λ p o. none p o (dec_lt p 256) }
+      each : (m : ℕ) → m < members b → FriendRow (graph_of b net) m (get_or rows m [])
+      each m l = record { bits = λ p s. bits p (dec_lt p from); none_above = λ p o. bits p (dec_lt p from) ∙ friends_outside b net m p o }
         where
-          r : RowBelow (graph_of b net) m from (row_of rows m)
+          r : RowBelow (graph_of b net) m from (get_or rows m [])
           r = t.each m (omega arith) l
 
-          go : (p : ℕ) → p < 256 → Dec (p < from) → row_bit (row_of rows m) p ≡ (graph_of b net).friends m p
-          go p s (yes d) = r.bits p s d
-          go p s (no d) = r.none_above p s (omega arith) ∙ sym (friends_outside b net m p (omega arith))
-
-          bits : (p : ℕ) → p < 256 → row_bit (row_of rows m) p ≡ (graph_of b net).friends m p
-          bits p s = go p s (dec_lt p from)
-
-          none : (p : ℕ) → members b ≤ p → Dec (p < 256) → row_bit (row_of rows m) p ≡ false
-          none p o (yes s) = bits p s ∙ friends_outside b net m p o
-          none p o (no s) = row_end rows m p (omega arith)
+          bits : (p : ℕ) → Dec (p < from) → row_bit (get_or rows m []) p ≡ (graph_of b net).friends m p
+          bits p (yes d) = r.bits p d
+          bits p (no d) = r.none_above p (omega arith) ∙ sym (friends_outside b net m p (omega arith))

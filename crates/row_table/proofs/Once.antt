@@ -1,7 +1,7 @@
 -- A graph has one friend row for each member.
 use Prim.Native.Nat.{ℕ, ◌+◌, ◌*◌, ◌/◌, ◌%◌, ◌<◌}
 use mathlib.Core.Path.{◌≡◌, sym, ap, ◌∙◌}
-use mathlib.Core.List.{List}
+use mathlib.Core.List.{List, []}
 use native.Mathlib.Decide.{dec_lt}
 use native.Mathlib.Omega.{arith}
 use lib.ListN.{get_or}
@@ -9,7 +9,7 @@ use lib.Seq.{ext_get_or}
 use Rattle.model.specs.Bytes.{bit}
 use Rattle.model.specs.Graph.{Graph}
 use Rattle.model.proofs.Bits.{set_ext, below_no_bit}
-use Rattle.sets.specs.Rows.{row_bit, row_of, FriendRow}
+use Rattle.sets.specs.Rows.{row_bit, FriendRow}
 use Rattle.sets.proofs.Words.{Words}
 use Rattle.row_table.specs.Filled.{RowsFilled}
 
@@ -29,12 +29,12 @@ friend_row_once g u a b v w f h = ext_get_or 0 a b (v.four ∙ sym w.four) (λ i
         (λ p k. here a i p k ∙ f.bits (i * 64 + p) (omega arith) ∙ sym (h.bits (i * 64 + p) (omega arith)) ∙ sym (here b i p k))
 
 -- the table of all rows leaves no two results
-pub rows_filled_once : (g : Graph) (before after after' : List ℕ) → ((m : ℕ) → Words (row_of after m)) → ((m : ℕ) → Words (row_of after' m))
+pub rows_filled_once : (g : Graph) (before after after' : List (List ℕ)) → ((m : ℕ) → Words (get_or after m [])) → ((m : ℕ) → Words (get_or after' m []))
     → RowsFilled g before after
     → RowsFilled g before after'
-    → (m : ℕ) → row_of after m ≡ row_of after' m
+    → (m : ℕ) → get_or after m [] ≡ get_or after' m []
 rows_filled_once g before after after' v w f h m = go (dec_lt m g.members)
   where
-    go : Dec (m < g.members) → row_of after m ≡ row_of after' m
-    go (yes l) = friend_row_once g m (row_of after m) (row_of after' m) (v m) (w m) (f.each m l) (h.each m l)
+    go : Dec (m < g.members) → get_or after m [] ≡ get_or after' m []
+    go (yes l) = friend_row_once g m (get_or after m []) (get_or after' m []) (v m) (w m) (f.each m l) (h.each m l)
     go (no l) = f.kept m (omega arith) ∙ sym (h.kept m (omega arith))

@@ -10,7 +10,7 @@ ghost use Rattle.row_table.specs.Filled.{RowsFilled};
 use network::World;
 
 // Writes the friend rows of all members, four words each, in one pass over the pair bytes.
-pub fn fill_rows(world: &World<'_>, rows: &mut [u64; 1024])
+pub fn fill_rows(world: &World<'_>, rows: &mut [[u64; 4]; 256])
     ensures { RowsFilled (graph_in world.now) rows.old rows.new }
 {
     let mut flags = [0u8; 256];
@@ -24,12 +24,12 @@ pub fn fill_rows(world: &World<'_>, rows: &mut [u64; 1024])
 }
 
 // m's friends: off the table, where one is lent, else off the pair bytes.
-pub fn row(world: &World<'_>, rows: Option<&[u64; 1024]>, m: usize) -> [u64; 4]
+pub fn row(world: &World<'_>, rows: Option<&[[u64; 4]; 256]>, m: usize) -> [u64; 4]
     requires { (m < members_in world.now) × IfSome rows (λ r. AllRows (graph_in world.now) r.now) }
     ensures { FriendRow (graph_in world.now) m result }
 {
     match rows {
-        Some(rows) => sets::row(rows, m),
+        Some(rows) => rows[m],
         None => rows::friend_row(world, m),
     }
 }

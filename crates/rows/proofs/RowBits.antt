@@ -1,16 +1,16 @@
 -- Friend rows, word by word.
-use Prim.Native.Nat.{ℕ, zero, suc, ◌+◌, ◌-◌, ◌*◌, ◌/◌, ◌%◌, ◌^◌, ◌≤◌, ◌<◌}
+use Prim.Native.Nat.{ℕ, ◌+◌, ◌-◌, ◌*◌, ◌/◌, ◌%◌, ◌^◌, ◌≤◌, ◌<◌}
 use mathlib.Core.Path.{◌≡◌, sym, ap, ◌∙◌}
 use mathlib.Core.Bool.{Bool, true, false}
-use mathlib.Core.List.{List, [], ◌∷◌}
+use mathlib.Core.List.{List}
 use mathlib.Core.Logic.{◌⊎◌, ⊎_elim}
-use native.Mathlib.Nat.{mod-lt, div-add-mod'}
+use native.Mathlib.Nat.{mod-lt, div-add-mod}
 use native.Mathlib.Numerals.{add-one}
 use native.Mathlib.Omega.{arith}
 use native.Mathlib.Decide.{dec_lt}
 use borrow.Author.Count.{below_more}
 use lib.Bits.{bit_or}
-use lib.ListN.{length, get_or}
+use lib.ListN.{length, get_or, get_or-eq_default}
 use Rattle.std.specs.Prelude.{slice_range}
 use Rattle.model.specs.Bytes.{digit, bit}
 use Rattle.model.specs.Graph.{Graph}
@@ -109,25 +109,17 @@ module _ {b net : List ℕ} {c : Summary} (ready : Ready b c net) {u at : ℕ} (
 
 -- ---- a row, word by word
 
-pub friend_row : (g : Graph) (u w₀ w₁ w₂ w₃ : ℕ)
-    → g.members ≤ 256
-    → ((m : ℕ) → g.members ≤ m → g.friends u m ≡ false)
-    → FirstBits g u 0 64 w₀
-    → FirstBits g u 64 64 w₁
-    → FirstBits g u 128 64 w₂
-    → FirstBits g u 192 64 w₃
-    → FriendRow g u (w₀ ∷ w₁ ∷ w₂ ∷ w₃ ∷ [])
-friend_row g u w₀ w₁ w₂ w₃ h none p₀ p₁ p₂ p₃ = record { bits = λ m l. at m; none_above = λ m l. at m ∙ none m l }
+pub friend_row : (g : Graph) (u : ℕ) (row : List ℕ) → g.members ≤ 256 → ((m : ℕ) → g.members ≤ m → g.friends u m ≡ false)
+    → length row ≡ 4
+    → ((w : ℕ) → w < 4 → FirstBits g u (64 * w) 64 (get_or row w 0))
+    → FriendRow g u row
+friend_row g u row h none long words = record { bits = λ m l. at m; none_above = λ m l. at m ∙ none m l }
   where
-    row : List ℕ
-    row = w₀ ∷ w₁ ∷ w₂ ∷ w₃ ∷ []
-
-    part : (q j : ℕ) → j < 64 → bit (get_or row q 0) j ≡ g.friends u (q * 64 + j)
-    part zero j l = p₀.bits j l
-    part (suc zero) j l = p₁.bits j l
-    part (suc (suc zero)) j l = p₂.bits j l
-    part (suc (suc (suc zero))) j l = p₃.bits j l
-    part (suc (suc (suc (suc q)))) j l = bit_no 0 j (digit_of_zero j) ∙ sym (none (suc (suc (suc (suc q))) * 64 + j) (omega arith))
+    part : (w j : ℕ) → j < 64 → Dec (w < 4) → bit (get_or row w 0) j ≡ g.friends u (64 * w + j)
+    part w j l (yes i) = (words w i).bits j l
+    part w j l (no n) =
+        let z : get_or row w 0 ≡ 0 = get_or-eq_default row 0 {n = w} (omega arith) in
+        rw z (bit_no 0 j (digit_of_zero j)) ∙ sym (none (64 * w + j) (omega arith))
 
     at : (m : ℕ) → row_bit row m ≡ g.friends u m
-    at m = part (m / 64) (m % 64) (mod-lt m (omega arith)) ∙ ap (g.friends u) (div-add-mod' m 64)
+    at m = part (m / 64) (m % 64) (mod-lt m (omega arith)) (dec_lt (m / 64) 4) ∙ ap (g.friends u) (div-add-mod m 64)

@@ -8,6 +8,7 @@ ghost use Rattle.sets.specs.Rows.{FriendRow};
 ghost use Rattle.rows.specs.Words.{FirstBits};
 
 use network::World;
+use std::array;
 
 // The first bits of u's row from a member on, all of members below u: their states stand side by side.
 fn lesser(world: &World<'_>, u: usize, from: usize, end: usize) -> u64
@@ -64,10 +65,5 @@ pub fn friend_row(world: &World<'_>, u: usize) -> [u64; 4]
     requires { u < members_in world.now }
     ensures { FriendRow (graph_in world.now) u result }
 {
-    [
-        word(world, u, 0),
-        word(world, u, 64),
-        word(world, u, 128),
-        word(world, u, 192),
-    ]
+    array::from_fn(|w| word(world, u, 64 * w))
 }

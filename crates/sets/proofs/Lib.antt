@@ -1,3 +1,5 @@
 pub mod CommonBits
+pub mod Iterating
+pub mod Made
+pub mod Rows
 pub mod Words
-pub mod Tables

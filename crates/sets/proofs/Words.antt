@@ -1,23 +1,22 @@
 -- Rows as four words.
-use Prim.Native.Nat.{ℕ, zero, suc, ◌+◌, ◌-◌, ◌*◌, ◌/◌, ◌%◌, ◌^◌, ◌≤◌, ◌<◌, max}
+use Prim.Native.Nat.{ℕ, zero, suc, ◌+◌, ◌*◌, ◌/◌, ◌%◌, ◌^◌, ◌<◌}
 use mathlib.Core.Path.{◌≡◌, refl, sym, ap, ◌∙◌}
-use mathlib.Core.Bool.{Bool, true, false, false≢true, not, ◌&&◌, ◌||◌}
+use mathlib.Core.Bool.{Bool, false, false≢true, not, ◌&&◌, ◌||◌}
 use mathlib.Core.List.{List, [], ◌∷◌}
-use native.Mathlib.Decide.{ℕ_discrete, dec_lt}
+use native.Mathlib.Decide.{ℕ_discrete}
 use native.Mathlib.Omega.{arith}
 use lib.Arith.{digits_div, digits_mod}
 use lib.Bits.{bit_and, bit_or, and_mask}
-use lib.Count.{count_trailing_zeros}
 use lib.Dec.{eqb}
 use lib.ListN.{length, get_or, get_or-eq_default}
 use Rattle.std.specs.Bool.{Decides}
 use Rattle.std.proofs.lemmas.Bool.Decides.{Decides-not}
 use Rattle.model.specs.Bytes.{bit}
-use Rattle.model.proofs.Bits.{trailing, digit_zero, digit_of_zero, digit_shr, bit_yes, bit_no, bit_and_lem, bit_or_lem, bit_below, below_no_bit, some_bit}
+use Rattle.model.proofs.Bits.{digit_zero, digit_of_zero, digit_shr, bit_no, bit_and_lem, bit_or_lem, bit_below, below_no_bit, some_bit}
 use Rattle.sets.specs.Rows.{row_bit}
-use Rattle.sets.specs.Sets.{Meet, Join, Rest, FirstFrom, Has, NotEmpty}
+use Rattle.sets.specs.Sets.{Meet, Join, Rest, Has, NotEmpty}
 
-bit_of_zero : (p : ℕ) → bit 0 p ≡ false
+pub bit_of_zero : (p : ℕ) → bit 0 p ≡ false
 bit_of_zero p = bit_no 0 p (digit_of_zero p)
 
 -- four words of 64 bits
@@ -82,41 +81,6 @@ pub rest_has : (set : List ℕ) (m r : ℕ) → Rest set m r → eqb (bit_and r 
 rest_has set m r h =
     let e : m + 0 ≡ m = omega arith in
     ap (λ (d : ℕ). eqb d 1) (and_mask r 1 ∙ sym (digit_zero r)) ∙ rw e at (h.bits 0 (omega arith))
-
--- ---- the first member at or above a number
-
--- none at or above from that are below m
-abbrev pub NoneBelow : List ℕ → ℕ → ℕ → Type 0
-NoneBelow set from m = (k : ℕ) → from ≤ k → k < m → row_bit set k ≡ false
-
-module _ {set : List ℕ} {from w word : ℕ} (s : NoneBelow set from (w * 64)) (r : Rest set (max from (w * 64)) word) (later : from / 64 ≤ w) where
-  -- none below the word's bit z, where its bits below z are not set
-  further : (z : ℕ) → ((q : ℕ) → q < z → bit word q ≡ false) → max from (w * 64) % 64 + z ≤ 64 → NoneBelow set from (max from (w * 64) + z)
-  further z n l k a b = go (dec_lt k (w * 64))
-    where
-      go : Dec (k < w * 64) → row_bit set k ≡ false
-      go (yes h) = s k a h
-      go (no h) =
-          let e : max from (w * 64) + (k - max from (w * 64)) ≡ k = omega arith in
-          rw e at (sym (r.bits (k - max from (w * 64)) (omega arith)) ∙ n (k - max from (w * 64)) (omega arith))
-
-  pub next_word : word ≡ 0 → NoneBelow set from ((w + 1) * 64)
-  next_word e k a b = further (64 - max from (w * 64) % 64) (λ q h. rw e (bit_of_zero q)) (omega arith) k a (omega arith)
-
-  -- the first member is at the word's lowest bit
-  pub first_here : w < 4 → (word ≡ 0 → ⊥) → word < 2 ^ 64 → FirstFrom set from (max from (w * 64) + count_trailing_zeros 64 word) × (max from (w * 64) + count_trailing_zeros 64 word < 256)
-  first_here h n f =
-      let t = trailing 64 word (omega arith) f in
-      let b : bit word (count_trailing_zeros 64 word) ≡ true = bit_yes word _ t.here in
-      let l : max from (w * 64) % 64 + count_trailing_zeros 64 word < 64 = r.ends _ b in (
-        record {
-          small = omega arith;
-          later = λ a. omega arith;
-          here = λ a. sym (r.bits _ l) ∙ b;
-          none = further (count_trailing_zeros 64 word) (λ q a. bit_no word q (t.below q a)) (omega arith);
-        },
-        omega arith,
-      )
 
 -- ---- whether there is a member
 

@@ -1,5 +1,5 @@
 -- Rows: a set of members as 256 bits in four words of 64.
-use Rattle.std.specs.Prelude.{ℕ, ◌+◌, ◌*◌, ◌/◌, ◌%◌, ◌≤◌, ◌<◌, ◌≡◌, Bool, false, List, [], ◌∷◌, get_or}
+use Rattle.std.specs.Prelude.{ℕ, ◌/◌, ◌%◌, ◌≤◌, ◌<◌, ◌≡◌, Bool, false, List, [], get_or}
 use Rattle.model.specs.Bytes.{bit}
 use Rattle.model.specs.Graph.{Graph}
 
@@ -12,10 +12,6 @@ pub record FriendRow (g : Graph) (u : ℕ) (row : List ℕ) : Type 0 where
   pub bits : (m : ℕ) → m < 256 → row_bit row m ≡ g.friends u m
   pub none_above : (m : ℕ) → g.members ≤ m → row_bit row m ≡ false
 
--- the four words of member m's row
-abbrev pub row_of : List ℕ → ℕ → List ℕ
-row_of rows m = get_or rows (m * 4) 0 ∷ get_or rows (m * 4 + 1) 0 ∷ get_or rows (m * 4 + 2) 0 ∷ get_or rows (m * 4 + 3) 0 ∷ []
-
--- the rows of all members, one after the other
-abbrev pub AllRows : Graph → List ℕ → Type 0
-AllRows g rows = (m : ℕ) → m < g.members → FriendRow g m (row_of rows m)
+-- the rows of all members
+abbrev pub AllRows : Graph → List (List ℕ) → Type 0
+AllRows g rows = (m : ℕ) → m < g.members → FriendRow g m (get_or rows m [])

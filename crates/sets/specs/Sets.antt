@@ -1,14 +1,14 @@
 -- Operations on sets of members as rows of 256 bits.
-use Rattle.std.specs.Prelude.{ℕ, ◌+◌, ◌%◌, ◌≤◌, ◌<◌, ◌≡◌, Bool, true, false, ◌&&◌, ◌||◌, List, Option, None, Some, ◌↔◌, length}
+use Rattle.std.specs.Prelude.{ℕ, ◌+◌, ◌%◌, ◌≤◌, ◌<◌, ◌≡◌, Bool, true, false, ◌&&◌, ◌||◌, List, [], get_or, Option, None, Some, ◌↔◌, length}
 use Rattle.model.specs.Bytes.{bit}
 use Rattle.model.specs.Graph.{Graph, count, shared}
-use Rattle.sets.specs.Rows.{row_bit, row_of, FriendRow}
+use Rattle.sets.specs.Rows.{row_bit, FriendRow}
 
 -- member m's row is written; all others are as they were
-pub record RowPut (before : List ℕ) (m : ℕ) (row after : List ℕ) : Type 0 where
+pub record RowPut (before : List (List ℕ)) (m : ℕ) (row : List ℕ) (after : List (List ℕ)) : Type 0 where
   pub long : length after ≡ length before
-  pub here : row_of after m ≡ row
-  pub kept : (k : ℕ) → (k ≡ m → ⊥) → row_of after k ≡ row_of before k
+  pub here : get_or after m [] ≡ row
+  pub kept : (k : ℕ) → (k ≡ m → ⊥) → get_or after k [] ≡ get_or before k []
 
 -- r has the members of both a and b
 pub record Meet (a b r : List ℕ) : Type 0 where

@@ -1,14 +1,18 @@
-// Sets of members as 256 bits in four words, and a table of one for each member.
+// Sets of members as 256 bits in four words.
 
 #![tactic(auto)]
 
-ghost use Rattle.std.specs.Prelude.{◌≡◌, ◌&&◌, ◌<◌, ◌≤◌, length};
+ghost use Rattle.std.specs.Prelude.{◌≡◌, ◌&&◌, ◌<◌, ◌≤◌};
 ghost use Rattle.model.specs.Bytes.{bit};
 ghost use Rattle.model.specs.Graph.{count};
-ghost use Rattle.sets.specs.Rows.{row_bit, row_of};
-ghost use Rattle.sets.specs.Sets.{RowPut, Meet, Join, Rest, FirstMember, NotEmpty, CommonBits};
+ghost use Rattle.sets.specs.Rows.{row_bit};
+ghost use Rattle.sets.specs.Sets.{Meet, Join, Rest, FirstMember, NotEmpty, CommonBits};
 
 use std::array;
+
+mod iteration;
+
+pub use iteration::{MemberIter, members, members_from};
 
 // The members of both sets.
 pub fn meet(a: [u64; 4], b: [u64; 4]) -> [u64; 4]
@@ -44,14 +48,7 @@ pub fn has(set: [u64; 4], m: usize) -> bool
 pub fn first_from(set: [u64; 4], from: usize) -> Option<usize>
     ensures { FirstMember set from result }
 {
-    for w in from / 64..4 {
-        let m = from.max(w * 64);
-        let word = rest(set, m);
-        if word != 0 {
-            return Some(m + word.trailing_zeros() as usize);
-        }
-    }
-    None
+    members_from(set, from).next()
 }
 
 // Whether a set has a member.
@@ -73,20 +70,4 @@ pub fn shared(a: [u64; 4], b: [u64; 4]) -> u32
     ensures { CommonBits a b result }
 {
     a.iter().zip(&b).map(|(x, y)| common(*x, *y)).sum()
-}
-
-// Writes a member's row.
-pub fn put_row(rows: &mut [u64; 1024], m: usize, row: [u64; 4])
-    requires { m < 256 }
-    ensures { RowPut rows.old m row rows.new }
-{
-    rows[m * 4..m * 4 + 4].copy_from_slice(&row);
-}
-
-// A member's row.
-pub fn row(rows: &[u64; 1024], m: usize) -> [u64; 4]
-    requires { m < 256 }
-    ensures { result ≡ row_of rows.now m }
-{
-    rows.as_chunks().0[m]
 }

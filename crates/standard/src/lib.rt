@@ -41,8 +41,9 @@ fn scheme_bytes(n: usize) -> [u8; 150]
         \x00\x1f\x00\x00\
         \x1f\x00\x00\x00\
         \x1f\x00\x00\x00";
-    bytes[4] = (n % 256) as u8;
-    bytes[5] = (n / 256) as u8;
+    let [low, high] = (n as u16).to_le_bytes();
+    bytes[4] = low;
+    bytes[5] = high;
     bytes
 }
 

@@ -1,6 +1,6 @@
 -- The steps of the log program.
 use Prim.Native.Nat.{ℕ, ◌+◌}
-use mathlib.Core.Path.{◌≡◌, refl, ◌∙◌}
+use mathlib.Core.Path.{◌≡◌, refl}
 use mathlib.Core.List.{List, ◌++◌}
 use native.Mathlib.Omega.{arith}
 use lib.ListN.{length, take, drop, length-append}
@@ -25,7 +25,8 @@ module _ (b log net old : List ℕ) (used : ℕ) where
   module _ (place position size : ℕ) (out part left : List ℕ) (a : Result ℕ Refusal) (following : ℕ) (lent : 256 ≡ length out) (h : LineOf b log place (take size net) out a (Some following) part left) where
     pub step_next : (answer many end : ℕ) (after : List ℕ) → answer ≡ answer_of a → many ≡ count_of a → length part ≡ size
         → Put old used (line_of position answer (take many left)) end after
-        → Stepped b log net old used (At place position size) (record { stand = At following (position + 1) size; used = end }) (part ++ drop size net) after
+        → Stepped b log (record { stand = At place position size; network = net; buffer = old; used = used })
+        (record { stand = At following (position + 1) size; network = part ++ drop size net; buffer = after; used = end })
     step_next answer many end after e f long p =
         let (q, n, m, l) = h in
         let put : Put old used (line_of position (answer_of a) (take (count_of a) left)) end after = rw (e, f) at p in

@@ -2,10 +2,11 @@
 
 #![tactic(auto)]
 
-ghost use Rattle.std.specs.Prelude.{◌+◌, ◌<◌, ◌≤◌, length};
-ghost use Rattle.fresh_start.specs.Stands.{Ready, Stepped};
+ghost use Rattle.std.specs.Prelude.{◌≡◌, ◌+◌, ◌<◌, ◌≤◌, length};
+ghost use Rattle.fresh_start.specs.Stands.{Ready, moment, Stepped};
 
-use fresh_start::{Filled, Stand};
+use fresh_start::Stand;
+use lines::Text;
 
 // The step of the record at a place.
 fn run_record(
@@ -15,32 +16,22 @@ fn run_record(
     position: u16,
     size: usize,
     network: &mut [u8],
-    buffer: &mut [u8],
-    used: usize,
-) -> Filled
-    requires { (position < 65535) × (size ≤ length network.old) × (used + 1548 ≤ length buffer.old) }
-    ensures { Stepped scheme.now log.now network.old buffer.old used (Stand.At place position size) result network.new buffer.new }
+    text: &mut Text<'_>,
+) -> Stand
+    requires { (position < 65535) × (size ≤ length network.old) × (text.old.used + 1548 ≤ length text.old.buffer.now) }
+    ensures stepped { Stepped scheme.now log.now (moment (Stand.At place position size) network.old text.old) (moment result network.new text.new) }
+    ensures same_reference { text.new.buffer.ghost_name ≡ text.old.buffer.ghost_name }
 {
     let mut output = [0u16; 256];
     let Some(line) = record_call::play(scheme, log, place, &mut network[..size], &mut output) else {
-        return Filled {
-            stand: Stand::Over,
-            used,
-        };
+        return Stand::Over;
     };
     let count = line.answer.unwrap_or(0);
-    let end = lines::put_line(
-        position,
-        refusals::answer(line.answer),
-        &output[..count],
-        buffer,
-        used,
-    );
-    let stand = match line.next {
+    text.line(position, refusals::answer(line.answer), &output[..count]);
+    match line.next {
         Some(following) => Stand::At(following, position + 1, size),
         None => Stand::Over,
-    };
-    Filled { stand, used: end }
+    }
 }
 
 // One step, where there is room for every line.
@@ -48,17 +39,18 @@ pub fn step(
     scheme: &[u8],
     log: &[u8],
     network: &mut [u8],
-    buffer: &mut [u8],
-    from: Filled,
-) -> Filled
-    requires { Ready from.stand (length network.old) × (from.used + 1548 ≤ length buffer.old) }
-    ensures { Stepped scheme.now log.now network.old buffer.old from.used from.stand result network.new buffer.new }
+    text: &mut Text<'_>,
+    from: Stand,
+) -> Stand
+    requires { Ready from (length network.old) × (text.old.used + 1548 ≤ length text.old.buffer.now) }
+    ensures stepped { Stepped scheme.now log.now (moment from network.old text.old) (moment result network.new text.new) }
+    ensures same_reference { text.new.buffer.ghost_name ≡ text.old.buffer.ghost_name }
 {
-    match from.stand {
-        Stand::Start => fresh_start::first(scheme, log, network, buffer, from.used),
-        Stand::At(place, position, size) => run_record(
-            scheme, log, place, position, size, network, buffer, from.used,
-        ),
+    match from {
+        Stand::Start => fresh_start::first(scheme, log, network, text),
+        Stand::At(place, position, size) => {
+            run_record(scheme, log, place, position, size, network, text)
+        }
         Stand::Over => from,
     }
 }

@@ -37,13 +37,11 @@ fn run_case<R: Read>(
     rt: &impl Print,
     input: &mut R,
     number: u64,
-    scheme: &mut [u8],
-    network: &mut [u8],
+    scheme: &[u8],
+    network: &[u8],
 ) -> Result<(), Stop> {
     // More places than a network can have members.
     let mut output = [0u16; 300];
-    let scheme_length = cases::read_part(input, scheme)?;
-    let network_length = cases::read_part(input, network)?;
     let count = cases::read_number(input)?;
     for place in 1..=count {
         let v = cases::read_long(input)?;
@@ -53,21 +51,13 @@ fn run_case<R: Read>(
             return Err(Stop::End);
         }
         print!(rt; "{number} {place}")?;
-        print_suggest(
-            rt,
-            &scheme[..scheme_length],
-            &network[..network_length],
-            v,
-            c,
-            &mut output[..places],
-        )?;
+        print_suggest(rt, scheme, network, v, c, &mut output[..places])?;
     }
     Ok(())
 }
 
 fn main(rt: HostRuntime) -> io::Result<()> {
-    let mut input = rt.reader();
-    let mut scheme = [0u8; 65536];
-    let mut network = [0u8; 65536];
-    cases::run(|number| run_case(&rt, &mut input, number, &mut scheme, &mut network))
+    cases::run(&mut rt.reader(), |input, number, scheme, network| {
+        run_case(&rt, input, number, scheme, network)
+    })
 }

@@ -14,7 +14,7 @@ use Rattle.suggestions.specs.Ranks.{Sources, Ranked, RanksBelow}
 pub rank_none : {w : World} {v m : ℕ} → (Suggestible w v m → ⊥) → Ranked w v m 0
 rank_none n = record { may = λ l. absurd (omega arith); counted = λ s. absurd (n s) }
 
-module _ {w : World} {v m : ℕ} {found near friends : List ℕ} {rows : Option (Bor (List ℕ))} (r : Sources w v found near friends rows) (few : w.graph.members ≤ 256) (b : m < w.graph.members) where
+module _ {w : World} {v m : ℕ} {found near friends : List ℕ} {rows : Option (Bor (List (List ℕ)))} (r : Sources w v found near friends rows) (few : w.graph.members ≤ 256) (b : m < w.graph.members) where
   friend : row_bit friends m ≡ w.graph.friends v m
   friend = r.own.bits m (omega arith)
 

@@ -11,7 +11,7 @@ use Rattle.sets.specs.Rows.{FriendRow, AllRows}
 use Rattle.suggestions.specs.declared.Sources.{Sources as Held}
 
 -- what v's ranks are read from: whom v finds, who is near, v's friends, and a table of all rows, if there is one
-pub record Sources (w : World) (v : ℕ) (found near friends : List ℕ) (rows : Option (Bor (List ℕ))) : Type 0 where
+pub record Sources (w : World) (v : ℕ) (found near friends : List ℕ) (rows : Option (Bor (List (List ℕ)))) : Type 0 where
   pub all : Everyone w v found
   pub around : Near w.graph v near
   pub own : FriendRow w.graph v friends

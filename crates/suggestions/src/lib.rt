@@ -18,7 +18,7 @@ struct Sources<'a> {
     found: &'a [u16; 256],
     near: [u64; 4],
     friends: [u64; 4],
-    rows: Option<&'a [u64; 1024]>,
+    rows: Option<&'a [[u64; 4]; 256]>,
 }
 
 impl Sources<'_> {
@@ -75,7 +75,7 @@ fn ranks_for(world: &World<'_>, v: usize) -> [u32; 256]
     if sets::shared(near, near) <= 32 {
         return sources.ranks();
     }
-    let mut rows = [0u64; 1024];
+    let mut rows = [[0u64; 4]; 256];
     row_table::fill_rows(world, &mut rows);
     Sources {
         rows: Some(&rows),

@@ -1,6 +1,6 @@
 -- The members to whom a chain goes on from an expanded one are marked, turn by turn.
 use Prim.Native.Nat.{ℕ, ◌+◌, ◌-◌, ◌<◌, ◌≤◌, min}
-use mathlib.Core.Path.{◌≡◌, refl, sym, ap, ◌∙◌}
+use mathlib.Core.Path.{◌≡◌, refl, sym, ap, subst, ◌∙◌}
 use mathlib.Core.Bool.{Bool, false}
 use mathlib.Core.List.{List, [], ◌∷◌, ◌++◌}
 use mathlib.Core.Logic.{inl, ⊎_elim}
@@ -15,8 +15,7 @@ use Rattle.model.specs.Graph.{Graph, Friends}
 use Rattle.model.specs.Finding.{World, paths, Goes, Finds, Allows}
 use Rattle.model.specs.SchemeBytes.{n}
 use Rattle.model.proofs.Walking.{further}
-use Rattle.network.specs.Ready.{graph_of}
-use Rattle.prepared.specs.Asking.{Asking, graph_asked}
+use Rattle.prepared.specs.Asking.{Asking, world_asked, graph_asked}
 use Rattle.starts.specs.Starts.{StartsAdded}
 use Rattle.starts.proofs.OneStored.{Stored, one_stored}
 use Rattle.starts.proofs.StartsMarked.{add, skip_to, starts_as}
@@ -57,19 +56,6 @@ pub record Chosen (w : World) (v u m : ℕ) (first seen : List ℕ) : Type 0 whe
   pub waits : get_or seen m 0 ≡ 1
   pub nobody : NobodyWaits m seen
 
--- the first that waits, where nobody does below a member
-pub chosen : {w : World} {v u low end m : ℕ} {first seen : List ℕ} → WalkFor w v u first seen → (end ≡ w.graph.members) × (w.graph.members ≤ 256)
-    → NobodyWaits low seen
-    → FirstMarked 1 seen low end (Some m)
-    → Chosen w v u m first seen
-chosen {low = low} x (e, small) none f = record {
-  walking = x;
-  small = small;
-  member = omega arith;
-  waits = f.2;
-  nobody = λ k a. elim (dec_lt k low) [ yes l ↦ none k l | no l ↦ f.3 k (omega arith) a ];
-}
-
 -- everyone below the first unseen is seen
 pub first_unseen : {from end x : ℕ} (seen : List ℕ) (r : Option ℕ) → AllSeen from seen → FirstMarked 0 seen from end r → x ≡ unwrap_or r end
     → (x ≤ end) × AllSeen x seen
@@ -82,16 +68,28 @@ first_unseen {from} {end} {x} seen r a f e = go r f e
     go None f e = (omega arith, rw e (upto end f))
     go (Some i) f e = (omega (arith, f.1), rw e (upto i f.3))
 
--- the end, the number of members
-pub members_asked : (a : Asking) (b : List ℕ) {members end : ℕ} → b ≡ a.scheme → members ≡ n b → (end ≡ members) × (end ≤ 256)
-    → (end ≡ n a.scheme) × (n a.scheme ≤ 256)
-members_asked a b e f (g, l) = let d : n b ≡ n a.scheme = ap n e in (g ∙ f ∙ d, omega arith)
+-- b is a as its world has it
+module _ {a b : Asking} {members : ℕ} (same : b ≡ a) (counted : members ≡ n b.scheme) where
+  -- what is told of b
+  pub asked : (P : Graph → ℕ → Type 0) → P (graph_asked b) members → P (graph_asked a) (n a.scheme)
+  asked P x = subst (λ c. P (graph_asked c) (n c.scheme)) same (rw counted at x)
 
--- what is told of a world's bytes, of the accessor's
-pub asked : (P : Graph → ℕ → Type 0) (a : Asking) (b net : List ℕ) (members : ℕ) → b ≡ a.scheme → net ≡ a.network → members ≡ n b
-    → P (graph_of b net) members
-    → P (graph_asked a) (n a.scheme)
-asked P a b net members e f g x = rw (g, e, f) at x
+  -- the first that waits before the last member, where nobody does below a member
+  pub chosen : {v u low last m : ℕ} {first seen : List ℕ} → (last ≡ members) × (last ≤ 256) → WalkFor (world_asked a) v u first seen
+      → NobodyWaits low seen
+      → FirstMarked 1 seen low last (Some m)
+      → (last ≡ n a.scheme) × Chosen (world_asked a) v u m first seen
+  chosen {low = low} {last = last} (e, small) x none f =
+      let all : last ≡ n a.scheme = e ∙ counted ∙ ap (λ (c : Asking). n c.scheme) same in (
+        all,
+        record {
+          walking = x;
+          small = omega (arith, all);
+          member = omega (arith, all, f.1);
+          waits = f.2;
+          nobody = λ k a. elim (dec_lt k low) [ yes l ↦ none k l | no l ↦ f.3 k (omega arith) a ];
+        },
+      )
 
 module _ {w : World} {v u m : ℕ} {first seen : List ℕ} (h : Chosen w v u m first seen) where
   -- m is expanded

@@ -11,14 +11,14 @@ returns-in_default c =
 pub returns-then-not_empty : goal.returns-then-not_empty
 returns-then-not_empty c =
     let (f, w) = c.in-Some.ensures in
-    found c.args.rows.now c.args.set c.in-Some.m (f.here w) (rw c.row.ensures at c.meet.ensures) (rw c.if-not_empty.true at (some_member c.not_empty.ensures c.args.rows.now 0))
+    found c.args.rows.now c.args.set c.in-Some.m (f.here w) c.meet.ensures (rw c.if-not_empty.true at (some_member c.not_empty.ensures c.args.rows.now 0))
 
 pub returns : goal.returns
 returns c =
     let (f, w) = c.in-Some.ensures in
     let m = c.in-Some.m in
     pair
-    (left_tried c.args.rows.now c.args.set m (f.here w) (rw c.row.ensures at c.meet.ensures)
+    (left_tried c.args.rows.now c.args.set m (f.here w) c.meet.ensures
     (rw c.if-not_empty.false at (some_member c.not_empty.ensures c.args.rows.now (m + 1)))
     (left_past f.none left_all))
     c.all_friends.ensures

@@ -1,5 +1,6 @@
-use Rattle.std.proofs.Common.{arith, ◌≡◌}
+use Rattle.std.proofs.Common.{arith, rules, ◌≡◌}
 use Rattle.network.proofs.Reading.{ready_range}
+use Rattle.sets.proofs.Rows.{row_put}
 use Rattle.lower_rows.proofs.Lowering.{row_inside, row_long, row_small, flags_below, lower_more, lower_none}
 use Rattle.lower_rows.proofs.fill.Goals as goal
 
@@ -27,7 +28,8 @@ add-requires c =
 pub loop-m-preserved : goal.loop-m-preserved
 loop-m-preserved c =
     let i = c.loop-m in
-    lower_more c.args.world.now.ready {m = i.m} (omega arith) c.pairs-at.ensures.0 i.invariant.flagged c.mark.ensures (omega arith) (omega arith) i.invariant c.row.ensures c.put_row.ensures c.add.ensures
+    lower_more c.args.world.now.ready {m = i.m} (omega arith) c.pairs-at.ensures.0 i.invariant.flagged c.mark.ensures (omega arith) (omega arith) i.invariant (search rules) c.row.ensures
+    (row_put _ i.m _ (omega (arith, i.invariant.long, c.told-rows, ready_range c.args.world.now.ready))) c.add.ensures
 
 pub returns : goal.returns
 returns c =

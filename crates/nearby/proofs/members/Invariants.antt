@@ -1,11 +1,9 @@
-use Rattle.std.proofs.Common.{◌-◌, ◌≤◌}
+use Rattle.std.proofs.Common.{ℕ}
 use Rattle.network.specs.Worlds.{graph_in}
+use Rattle.sets.specs.Members.{MembersFrom}
 use Rattle.nearby.proofs.Passing.{Passed}
 use Rattle.nearby.proofs.Nearby.{Around}
 use Rattle.nearby.proofs.members.Given as goal
 
 abbrev pub invariant-loop-m : goal.invariant-loop-m
-invariant-loop-m l = record { within : l.from ≤ 256; passed : Passed l.friends l.from (Around (graph_in l.world) l.all) }
-
-abbrev pub decreases-loop-m : goal.decreases-loop-m
-decreases-loop-m l = 256 - l.from
+invariant-loop-m l = (next : ℕ) × MembersFrom l.fn.friends next l.m-iterator × Passed l.fn.friends next (Around (graph_in l.world) l.all)

@@ -22,4 +22,4 @@ pub returns : goal.returns
 returns c =
     let w = c.args.world.now in
     let m = w.ready.counts.members in
-    table_whole w.scheme.bytes.now w.network.now {from = 8 * c.loop-part.part} (omega (arith, c.loop-part-test.false, m)) (omega (arith, m, ready_range w.ready)) c.loop-part.invariant.table
+    table_whole w.scheme.bytes.now w.network.now {from = 8 * c.loop-part.part} (omega (arith, c.loop-part-test.false, m)) c.loop-part.invariant.table

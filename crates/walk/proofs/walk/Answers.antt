@@ -1,55 +1,37 @@
-use Rattle.std.proofs.Common.{arith, ap, refl, ◌≡◌}
+use Rattle.std.proofs.Common.{arith, refl}
 use mathlib.Core.Bool.{true≢false}
 use lib.ListN.{set}
-use Rattle.model.specs.SchemeBytes.{n}
 use Rattle.model.proofs.Deciding.{said_yes, said_no}
-use Rattle.prepared.specs.Asking.{Asking}
 use Rattle.walk.specs.Walks.{sought, Met, Expanded}
-use Rattle.walk.proofs.StepsMarked.{members_asked, chosen, first_unseen, asked, still_unmet, still_seen, nobody_else, all_seen, walk_on, less, none_added, friends_added, passed_by, met_found}
+use Rattle.walk.proofs.StepsMarked.{chosen, first_unseen, asked, still_unmet, still_seen, nobody_else, all_seen, walk_on, less, none_added, friends_added, passed_by, met_found}
 use Rattle.walk.proofs.walk.Goals as goal
 
 pub expand-requires : goal.expand-requires
 expand-requires c =
     let i = c.walk.invariant in
-    let d : n c.accessor.inside.world.now.scheme.bytes.now ≡ n c.args.accessor.now.scheme = ap (λ (a : Asking). n a.scheme) c.accessor.view_is in
-    let q = c.accessor.inside.world.now.ready.counts.members in
-    let outer = c.accessor.inside.world.now in
-    let all = members_asked c.args.accessor.now outer.scheme.bytes.now (ap (λ (a : Asking). a.scheme) c.accessor.view_is) outer.ready.counts.members c.members-members.ensures in
-    let h = chosen i.walking all i.nobody c.in-Some.ensures in
+    let (all, h) = chosen c.accessor.view_is c.accessor.inside.world.now.ready.counts.members c.members-members.ensures i.walking i.nobody c.in-Some.ensures in
     let (least, everyone) = first_unseen _ c.first_marked-then-allows.result (still_seen h i.everyone) c.first_marked-then-allows.ensures c.unwrap_or-first.ensures in
     (omega (arith, h.member), omega (arith, least), everyone)
 
 pub returns-in_default-expand : goal.returns-in_default-expand
 returns-in_default-expand c =
     let i = c.walk.invariant in
-    let w = c.accessor.inside.world.now in
-    let outer = c.accessor.inside.world.now in
-    let all = members_asked c.args.accessor.now outer.scheme.bytes.now (ap (λ (a : Asking). a.scheme) c.accessor.view_is) outer.ready.counts.members c.members-members.ensures in
-    let h = chosen i.walking all i.nobody c.in-Some.ensures in
-    let met = asked (λ g k. Met g c.in-Some.m (sought k c.args.u)) c.args.accessor.now w.scheme.bytes.now w.network.now w.scheme.counts.members
-    (ap (λ (a : Asking). a.scheme) c.accessor.view_is) (ap (λ (a : Asking). a.network) c.accessor.view_is) w.ready.counts.members c.in_default-expand.ensures in
+    let (_, h) = chosen c.accessor.view_is c.accessor.inside.world.now.ready.counts.members c.members-members.ensures i.walking i.nobody c.in-Some.ensures in
+    let met = asked c.accessor.view_is c.accessor.inside.world.now.ready.counts.members (λ g k. Met g c.in-Some.m (sought k c.args.u)) c.in_default-expand.ensures in
     record { found = λ y. met_found h (said_yes c.if-allows.true c.allows.ensures) met; ended = λ y. absurd (true≢false y) }
 
 pub walk-smaller-then-allows : goal.walk-smaller-then-allows
 walk-smaller-then-allows c =
     let i = c.walk.invariant in
-    let w = c.accessor.inside.world.now in
-    let outer = c.accessor.inside.world.now in
-    let all = members_asked c.args.accessor.now outer.scheme.bytes.now (ap (λ (a : Asking). a.scheme) c.accessor.view_is) outer.ready.counts.members c.members-members.ensures in
-    let h = chosen i.walking all i.nobody c.in-Some.ensures in
-    let x = asked (λ g k. Expanded g c.in-Some.m (sought k c.args.u) (set c.walk.seen c.in-Some.m 2) k c.in-Some-expand.least c.expand.new.seen) c.args.accessor.now w.scheme.bytes.now w.network.now w.scheme.counts.members
-    (ap (λ (a : Asking). a.scheme) c.accessor.view_is) (ap (λ (a : Asking). a.network) c.accessor.view_is) w.ready.counts.members c.in-Some-expand.ensures in
+    let (_, h) = chosen c.accessor.view_is c.accessor.inside.world.now.ready.counts.members c.members-members.ensures i.walking i.nobody c.in-Some.ensures in
+    let x = asked c.accessor.view_is c.accessor.inside.world.now.ready.counts.members (λ g k. Expanded g c.in-Some.m (sought k c.args.u) (set c.walk.seen c.in-Some.m 2) k c.in-Some-expand.least c.expand.new.seen) c.in-Some-expand.ensures in
     less h (friends_added h (said_yes c.if-allows.true c.allows.ensures) x)
 
 pub walk-preserved-then-allows : goal.walk-preserved-then-allows
 walk-preserved-then-allows c =
     let i = c.walk.invariant in
-    let w = c.accessor.inside.world.now in
-    let outer = c.accessor.inside.world.now in
-    let all = members_asked c.args.accessor.now outer.scheme.bytes.now (ap (λ (a : Asking). a.scheme) c.accessor.view_is) outer.ready.counts.members c.members-members.ensures in
-    let h = chosen i.walking all i.nobody c.in-Some.ensures in
-    let x = asked (λ g k. Expanded g c.in-Some.m (sought k c.args.u) (set c.walk.seen c.in-Some.m 2) k c.in-Some-expand.least c.expand.new.seen) c.args.accessor.now w.scheme.bytes.now w.network.now w.scheme.counts.members
-    (ap (λ (a : Asking). a.scheme) c.accessor.view_is) (ap (λ (a : Asking). a.network) c.accessor.view_is) w.ready.counts.members c.in-Some-expand.ensures in
+    let (all, h) = chosen c.accessor.view_is c.accessor.inside.world.now.ready.counts.members c.members-members.ensures i.walking i.nobody c.in-Some.ensures in
+    let x = asked c.accessor.view_is c.accessor.inside.world.now.ready.counts.members (λ g k. Expanded g c.in-Some.m (sought k c.args.u) (set c.walk.seen c.in-Some.m 2) k c.in-Some-expand.least c.expand.new.seen) c.in-Some-expand.ensures in
     let allowed = said_yes c.if-allows.true c.allows.ensures in
     let y = friends_added h allowed x in
     let (least, everyone) = first_unseen _ c.first_marked-then-allows.result (still_seen h i.everyone) c.first_marked-then-allows.ensures c.unwrap_or-first.ensures in
@@ -64,17 +46,13 @@ walk-preserved-then-allows c =
 pub walk-smaller : goal.walk-smaller
 walk-smaller c =
     let i = c.walk.invariant in
-    let outer = c.accessor.inside.world.now in
-    let all = members_asked c.args.accessor.now outer.scheme.bytes.now (ap (λ (a : Asking). a.scheme) c.accessor.view_is) outer.ready.counts.members c.members-members.ensures in
-    let h = chosen i.walking all i.nobody c.in-Some.ensures in
+    let (_, h) = chosen c.accessor.view_is c.accessor.inside.world.now.ready.counts.members c.members-members.ensures i.walking i.nobody c.in-Some.ensures in
     less h (none_added h (said_no c.if-allows.false c.allows.ensures))
 
 pub walk-preserved : goal.walk-preserved
 walk-preserved c =
     let i = c.walk.invariant in
-    let outer = c.accessor.inside.world.now in
-    let all = members_asked c.args.accessor.now outer.scheme.bytes.now (ap (λ (a : Asking). a.scheme) c.accessor.view_is) outer.ready.counts.members c.members-members.ensures in
-    let h = chosen i.walking all i.nobody c.in-Some.ensures in
+    let (all, h) = chosen c.accessor.view_is c.accessor.inside.world.now.ready.counts.members c.members-members.ensures i.walking i.nobody c.in-Some.ensures in
     record {
       low = omega (arith, h.member);
       first = i.first;
