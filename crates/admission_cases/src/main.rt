@@ -4,7 +4,11 @@
 
 #![tactic(auto)]
 
+ghost use Rattle.std.specs.Prelude.{◌<◌};
+ghost use Rattle.network.specs.Worlds.{members_in};
+
 use cases::Stop;
+use network::World;
 use prepared::Accessor;
 use std::io;
 use std::io::Read;
@@ -13,21 +17,18 @@ use std::io::Read;
 fn print_admitted(
     rt: &impl Print,
     number: u64,
-    scheme: &[u8],
-    network: &[u8],
+    world: &World<'_>,
     v: usize,
     u: usize,
-) -> Result<(), Stop> {
-    let Ok(world) = opening::open(scheme, network, v, u) else {
-        return Err(Stop::End);
-    };
+) -> io::Result<()>
+    requires { (v < members_in world.now) × (u < members_in world.now) }
+{
     let mut distances = [0u16; 256];
     let mut rows = [[0u64; 4]; 256];
-    prepared::prepare(&world, v, &mut distances, &mut rows);
-    let accessor = Accessor::new(&world, v, &distances, &rows);
+    prepared::prepare(world, v, &mut distances, &mut rows);
+    let accessor = Accessor::new(world, v, &distances, &rows);
     let set = policies::admitted(&accessor, u, 0, world.scheme.counts.policies);
-    println!(rt; "{number} {v} {u} {set}")?;
-    Ok(())
+    println!(rt; "{number} {v} {u} {set}")
 }
 
 // Reads a case and prints its lines.
@@ -38,10 +39,17 @@ fn run_case<R: Read>(
     scheme: &[u8],
     network: &[u8],
 ) -> Result<(), Stop> {
+    // Every scheme has a member 0.
+    let Ok(world) = opening::open(scheme, network, 0, 0) else {
+        return Err(Stop::End);
+    };
     for _ in 0..cases::read_number(input)? {
         let v = cases::read_number(input)?;
         let u = cases::read_number(input)?;
-        print_admitted(rt, number, scheme, network, v, u)?;
+        if v >= world.members() || u >= world.members() {
+            return Err(Stop::End);
+        }
+        print_admitted(rt, number, &world, v, u)?;
     }
     Ok(())
 }

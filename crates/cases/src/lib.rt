@@ -24,6 +24,8 @@ pub enum Stop {
 }
 
 impl From<io::Error> for Stop {
+    ghost from_gives = { λ error stop. stop ≡ Output error };
+
     fn from(error: io::Error) -> Stop {
         Stop::Output(error)
     }
@@ -92,10 +94,10 @@ fn read_bytes<R: Read, const N: usize>(input: &mut R) -> Result<[u8; N], Stop>
     ensures bytes { IfOk result (λ bytes. Consumes (R.remaining input.old) (R.remaining input.new) bytes) }
 {
     let mut bytes = [0u8; N];
-    if read_full(input, &mut bytes) < N {
-        return Err(Stop::End);
+    match input.read_exact(&mut bytes) {
+        Ok(()) => Ok(bytes),
+        Err(_) => Err(Stop::End),
     }
-    Ok(bytes)
 }
 
 // Reads a 2-byte number.

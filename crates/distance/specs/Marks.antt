@@ -1,12 +1,7 @@
 -- What the parts of `fill` do to the marks: a member's mark is one more than its distance, or 0 while it has none.
-use Rattle.std.specs.Prelude.{ℕ, ◌+◌, ◌<◌, ◌≡◌, Bool, false, List, Option, None, Some, get_or}
+use Rattle.std.specs.Prelude.{ℕ, ◌+◌, ◌<◌, ◌≡◌, Bool, false, List, get_or}
 use Rattle.model.specs.Graph.{Graph}
-use Rattle.next_friend.specs.Spread.{Marked, Spread}
-
--- the first of n members without a mark; none where all have one
-abbrev pub FirstUnmarked : ℕ → List ℕ → Option ℕ → Type 0
-FirstUnmarked n marks (Some k) = (k < n) × Marked n marks k
-FirstUnmarked n marks None = Marked n marks n
+use Rattle.next_friend.specs.Spread.{Spread}
 
 -- the friends of those below i with the mark were tried; where some is false, there was none with it, or everybody has a mark
 pub record Layered (g : Graph) (mark : ℕ) (old : List ℕ) (i : ℕ) (new : List ℕ) (some : Bool) : Type 0 where

@@ -4,19 +4,10 @@
 
 ghost use Rattle.std.specs.Prelude.{◌<◌, ◌≤◌};
 ghost use Rattle.network.specs.Worlds.{members_in, graph_in};
-ghost use Rattle.next_friend.specs.Spread.{Marked};
 ghost use Rattle.distance.specs.Distances.{Distances};
-ghost use Rattle.distance.specs.Marks.{FirstUnmarked, Layered};
+ghost use Rattle.distance.specs.Marks.{Layered};
 
 use network::World;
-
-// The first member without a mark, where there is one; all before from have one.
-fn unmarked(members: usize, distances: &[u16; 256], from: usize) -> Option<usize>
-    requires { (members ≤ 256) × Marked members distances.now from }
-    ensures { FirstUnmarked members distances.now result }
-{
-    (from..members).find(|k| distances[*k] == 0)
-}
 
 // Marks the friends of those with a mark that have none yet; false where nobody had that mark, or everybody has one.
 fn layer(world: &World<'_>, mark: u16, distances: &mut [u16; 256]) -> bool
@@ -28,7 +19,7 @@ fn layer(world: &World<'_>, mark: u16, distances: &mut [u16; 256]) -> bool
     let mut some = false;
     for m in 0..members {
         if distances[m] == mark {
-            let Some(first) = unmarked(members, distances, from) else {
+            let Some(first) = next_friend::marks::first_marked(distances, 0, from, members) else {
                 return false;
             };
             next_friend::marks::spread(world, m, mark + 1, first, distances);

@@ -31,26 +31,26 @@ fn read_part<R: Read>(file: &mut R, buffer: &mut [u8], from: usize) -> io::Resul
     told(got, space)
 }
 
-// Reads to the end, or until the buffer is full; 0 where a read fails, or a thousand were interrupted.
-fn read_all<R: Read>(file: &mut R, buffer: &mut [u8]) -> usize
-    ensures prefix { IsPrefixLen result buffer.new }
-    ensures bytes { 0 < result → Consumes (R.remaining file.old) (R.remaining file.new) (take result buffer.new) }
+// Reads to the end, or until the buffer is full; an error where a read fails, or a thousand were interrupted.
+fn read_all<R: Read>(file: &mut R, buffer: &mut [u8]) -> io::Result<usize>
+    ensures prefix { IfOk result (λ n. IsPrefixLen n buffer.new) }
+    ensures bytes { IfOk result (λ n. Consumes (R.remaining file.old) (R.remaining file.new) (take n buffer.new)) }
 {
     let mut done: usize = 0;
     let mut interrupted: usize = 0;
     while interrupted < 1000 {
         if done == buffer.len() {
-            return done;
+            return Ok(done);
         }
         let part = read_part(file, buffer, done);
         match part {
-            Ok(0) => return done,
+            Ok(0) => return Ok(done),
             Ok(count) => done += count,
             Err(error) if error.kind() == ErrorKind::Interrupted => interrupted += 1,
-            Err(_) => return 0,
+            Err(error) => return Err(error),
         }
     }
-    0
+    Err(Error::from(ErrorKind::Interrupted))
 }
 
 // A file's bytes to the front of the buffer, as many as it holds; how many. A file that cannot be opened, also since its name is
@@ -64,7 +64,7 @@ pub fn read<R: Files>(rt: &R, path: &[u8], buffer: &mut [u8]) -> usize
     let Ok(mut file) = File::open(rt, name) else {
         return 0;
     };
-    read_all(&mut file, buffer)
+    read_all(&mut file, buffer).unwrap_or(0)
 }
 
 // One write of the bytes from a place on.

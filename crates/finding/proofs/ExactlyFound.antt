@@ -1,11 +1,11 @@
 -- Where a walk ends, exactly the members are seen whom the viewer finds.
-use Prim.Native.Nat.{ℕ, zero, suc, ◌<◌, ◌≤◌}
+use Prim.Native.Nat.{ℕ, ◌<◌, ◌≤◌}
 use mathlib.Core.Path.{◌≡◌, refl}
 use mathlib.Core.Bool.{Bool, true, false}
 use mathlib.Core.List.{List, [], ◌∷◌}
 use mathlib.Core.Logic.{inl, inr, ⊎_elim, ◌↔◌}
 use native.Mathlib.Omega.{arith}
-use lib.ListN.{get_or, replicate}
+use lib.ListN.{get_or}
 use Rattle.model.specs.Graph.{Onward}
 use Rattle.model.specs.Finding.{World, paths, Begins, Goes, Finds, Allows}
 use Rattle.model.specs.Decides.{Decides}
@@ -14,12 +14,6 @@ use Rattle.model.proofs.Walking.{found_member}
 use Rattle.starts.specs.Starts.{Begun, SearchAdded}
 use Rattle.walk.specs.Walks.{Walk, Unmet, WalkFor, WalkEnded, Walked}
 use Rattle.finding.specs.Everyone.{Everyone}
-
--- in an array of zeros nobody is seen
-pub all_zero : (n k : ℕ) → ◌≡◌ {A = ℕ} (get_or (replicate n 0) k 0) 0
-all_zero zero k = refl
-all_zero (suc n) zero = refl
-all_zero (suc n) (suc k) = all_zero n k
 
 module _ (w : World) (v : ℕ) where
   found_first : (k : ℕ) → Begins (paths w) v k → Finds w v k

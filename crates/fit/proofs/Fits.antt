@@ -1,23 +1,21 @@
 -- What the code tests of the bytes of kinds 2 to 5 is what the definition says of them.
-use Prim.Native.Nat.{ℕ, ◌+◌, ◌-◌, ◌*◌, ◌%◌, ◌≤◌, ◌<◌}
-use mathlib.Core.Path.{◌≡◌, refl, sym, ap₂, ◌∙◌}
-use mathlib.Core.List.{List}
-use mathlib.Core.Bool.{Bool, true, false, ◌||◌, true≢false}
-use mathlib.Core.Logic.{inl, inr, ◌↔◌}
-use native.Mathlib.Nat.{add-zero, mod-le}
+use Prim.Native.Nat.{ℕ, zero, suc, ◌+◌, ◌-◌, ◌*◌, ◌/◌, ◌%◌, ◌^◌, ◌≤◌, ◌<◌}
+use mathlib.Core.Path.{◌≡◌, refl, ap, ◌∙◌}
+use mathlib.Core.List.{List, [], ◌∷◌}
+use mathlib.Core.Bool.{Bool}
+use mathlib.Core.Logic.{inl, inr}
+use native.Mathlib.Nat.{mod-le}
 use native.Mathlib.Decide.{ℕ_discrete}
 use native.Mathlib.Omega.{arith}
-use borrow.Author.Count.{below_more}
-use lib.Bits.{bit_or}
-use lib.Dec.{leb}
-use lib.ListN.{length, take, drop}
+use lib.Dec.{eqb, leb}
+use lib.ListN.{length, get_or, take, drop}
+use Rattle.std.specs.Simd.{first_chunks}
 use Rattle.std.proofs.lemmas.List.{get_or-take, get_or-drop, length-take-le}
 use Rattle.std.proofs.Common.{length-drop}
-use Rattle.model.specs.Bytes.{byte, four, bit, NoBitFrom}
+use Rattle.model.specs.Bytes.{byte, four, NoBitFrom}
 use Rattle.model.specs.Decides.{Decides}
-use Rattle.model.proofs.Bits.{bit_or_lem}
-use Rattle.model.proofs.Deciding.{Says, says, iff, is_le}
-use Rattle.model.proofs.Sets.{none_in_zero}
+use Rattle.model.proofs.Bits.{shr_zero, zero_shr}
+use Rattle.model.proofs.Deciding.{is_eq, Says, says, iff, is_le}
 use Rattle.model.specs.SchemeBytes.{S, A, I, P, at2, at3, at4, at5, field, MoveFits, PolicyFits, MaskFits, Records}
 use Rattle.records.proofs.Most.{Most, raised}
 use Rattle.tables.specs.declared.counts.Summary.{Summary}
@@ -35,26 +33,6 @@ raised_fits : (S x : ℕ) → MoveFits S x → (x + 1) % 256 ≤ S
 raised_fits S x (inl e) = rw e (omega arith)
 raised_fits S x (inr l) = omega (arith, mod-le (x + 1) 256)
 
-neither : (x y : Bool) → (x || y) ≡ false → (x ≡ false) × (y ≡ false)
-neither true y e = absurd (true≢false e)
-neither false y e = (refl, e)
-
--- no value of f below n is 0, and all has their bits
-pub record Joined (f : ℕ → ℕ) (P n all : ℕ) : Type 0 where
-  pub some : (k : ℕ) → k < n → 1 ≤ f k
-  pub none : NoBitFrom P all ↔ ((k : ℕ) → k < n → NoBitFrom P (f k))
-
-pub joined_more : (f : ℕ → ℕ) (P n all : ℕ) → 1 ≤ f n → Joined f P n all → Joined f P (n + 1) (bit_or all (f n))
-joined_more f P n all s j = record {
-  some = below_more (λ (k : ℕ). 1 ≤ f k) n j.some s;
-  none = (
-    λ h.
-        below_more (λ (k : ℕ). NoBitFrom P (f k)) n (j.none.0 (λ q l. (neither (bit all q) (bit (f n) q) (sym (bit_or_lem all (f n) q) ∙ h q l)).0))
-        (λ q l. (neither (bit all q) (bit (f n) q) (sym (bit_or_lem all (f n) q) ∙ h q l)).1),
-    λ h q l. bit_or_lem all (f n) q ∙ ap₂ ◌||◌ (j.none.1 (λ k m. h k (omega arith)) q l) (h n (omega arith) q l),
-  );
-}
-
 -- what the greatest of the next states, raised by 1, says of them
 pub moves_say : (s : List ℕ) (S most : ℕ) → ((k : ℕ) → byte s k < 256) → Most (raised s 1) (length s) most
     → Says (leb most S) ((k : ℕ) → k < length s → MoveFits S (byte s k))
@@ -69,6 +47,28 @@ pub marks_say : (s : List ℕ) (most : ℕ) → ((k : ℕ) → byte s k < 256) �
     → Says (leb most 1) ((k : ℕ) → k < length s → byte s k ≤ 1)
 marks_say s most small m =
     iff (λ l k h. omega (arith, small k, (m 1).0 l k h)) (λ f. (m 1).1 (λ k h. omega (arith, f k h))) (is_le most 1)
+
+-- a set shifted by n is 0 where it has no bit from n
+pub none_from : (w n x : ℕ) → x < 2 ^ w → Says (eqb (x / 2 ^ n) 0) (NoBitFrom n x)
+none_from w n x l = iff (shr_zero n x) (zero_shr w n x l) (is_eq (x / 2 ^ n) 0)
+
+-- chunk p has the four bytes from p * 4
+pub chunk_is : (xs : List ℕ) {chunks : List (List ℕ)} (p : ℕ) → chunks ≡ first_chunks 4 (length xs / 4) xs → p < length xs / 4
+    → get_or chunks p [] ≡ byte xs (p * 4) ∷ byte xs (p * 4 + 1) ∷ byte xs (p * 4 + 2) ∷ byte xs (p * 4 + 3) ∷ []
+chunk_is xs p e l = rw e (go xs (length xs / 4) p l (omega arith))
+  where
+    go : (xs : List ℕ) (n p : ℕ) → p < n → n * 4 ≤ length xs
+        → get_or (first_chunks 4 n xs) p [] ≡ byte xs (p * 4) ∷ byte xs (p * 4 + 1) ∷ byte xs (p * 4 + 2) ∷ byte xs (p * 4 + 3) ∷ []
+    go xs zero p h l = absurd (omega arith)
+    go [] (suc n) p h l = absurd (omega arith)
+    go (a ∷ []) (suc n) p h l = absurd (omega arith)
+    go (a ∷ b ∷ []) (suc n) p h l = absurd (omega arith)
+    go (a ∷ b ∷ c ∷ []) (suc n) p h l = absurd (omega arith)
+    go (a ∷ b ∷ c ∷ d ∷ xs) (suc n) zero h l = refl
+    go (a ∷ b ∷ c ∷ d ∷ xs) (suc n) (suc p) h l =
+        let z : suc p * 4 ≡ suc (suc (suc (suc (p * 4)))) = omega arith in
+        let e : (i : ℕ) → suc p * 4 + i ≡ suc (suc (suc (suc (p * 4 + i)))) = λ i. omega arith in
+        rw (e 1, e 2, e 3, z) (go xs n p (omega arith) (omega arith))
 
 -- what is said of the bytes of each kind
 module _ (b : List ℕ) where
@@ -91,35 +91,30 @@ part_byte b from size k l = get_or-take size (drop from b) k 0 l ∙ get_or-drop
 part_long : (b : List ℕ) (from size : ℕ) → from + size ≤ length b → length (take size (drop from b)) ≡ size
 part_long b from size l = length-take-le size (drop from b) (omega (arith, length-drop from b))
 
-module _ {b : List ℕ} {c : Summary} {marks policies masks resources : ℕ} (o : Places b c marks policies masks resources) where
+-- what is said of the numbers below n, of the same numbers below m
+each : {P Q : ℕ → Type 0} {x : Bool} {n m : ℕ} → n ≡ m → ((k : ℕ) → k < m → P k ≡ Q k) → Says x ((k : ℕ) → k < n → P k) → Says x ((k : ℕ) → k < m → Q k)
+each {m = m} e f = iff (λ h k l. rw (← f k l) (h k (rw e l))) (λ h k l. let i : k < m = rw e at l in rw (f k i) (h k i))
+
+module _ {b : List ℕ} {c : Summary} {marks policies masks : ℕ} (o : Places b c marks policies masks) where
   pub fits_moves : (x : Bool) → Records b → let part = take (marks - 4 - 14) (drop 14 b) in Decides x ((k : ℕ) → k < length part → MoveFits c.states (byte part k)) → Says x (Moves b)
   fits_moves x r d =
       let size : marks - 4 - 14 ≡ S b * 2 * A b = omega (arith, o.marks_at) in
-      let long = part_long b 14 (S b * 2 * A b) (omega (arith, r.moves.0)) in
-      iff
-      (λ h k l. rw (← part_byte b 14 (S b * 2 * A b) k l) (h k (rw long l)))
-      (λ h k l. let m : k < S b * 2 * A b = rw long at l in rw (part_byte b 14 (S b * 2 * A b) k m) (h k m))
-      (rw (size, o.counts.states) at (says {b = x} d))
+      each (part_long b 14 (S b * 2 * A b) (omega (arith, r.moves.0))) (λ k l. ap (MoveFits (S b)) (part_byte b 14 (S b * 2 * A b) k l)) (rw (size, o.counts.states) at (says {b = x} d))
 
   pub fits_marks : (x : Bool) → Records b → let part = take (policies - 4 - marks) (drop marks b) in Decides x ((q : ℕ) → q < length part → byte part q ≤ 1) → Says x (Friends b)
   fits_marks x r d =
       let size : policies - 4 - marks ≡ S b = omega (arith, o.marks_at, o.policies_at) in
-      let long = part_long b (at3 b + 4) (S b) (omega (arith, r.friends.0)) in
-      iff
-      (λ h q l. rw (← part_byte b (at3 b + 4) (S b) q l) (h q (rw long l)))
-      (λ h q l. let m : q < S b = rw long at l in rw (part_byte b (at3 b + 4) (S b) q m) (h q m))
-      (rw (size, o.marks_at) at (says {b = x} d))
+      each (part_long b (at3 b + 4) (S b) (omega (arith, r.friends.0))) (λ q l. rw (part_byte b (at3 b + 4) (S b) q l) refl) (rw (size, o.marks_at) at (says {b = x} d))
 
-  pub fits_policies : (x : Bool) → Decides x ((p : ℕ) → p < c.policies → PolicyFits c.states p (byte b (policies + p * 4)) (byte b (policies + p * 4 + 1)) (byte b (policies + p * 4 + 2)) (byte b (policies + p * 4 + 3))) → Says x (Policies b)
-  fits_policies x d =
-      iff
-      (λ h p l. rw (add-zero (at4 b + 4 + p * 4), ← o.policies_at, ← o.counts.states) (h p (omega (arith, o.counts.policies))))
-      (λ h p l. rw (o.counts.states, o.policies_at) (rw (add-zero (at4 b + 4 + p * 4)) at (h p (omega (arith, o.counts.policies)))))
-      (says {b = x} d)
+  pub fits_policies : (x : Bool) → Records b → let part = take (masks - 4 - policies) (drop policies b) in Decides x ((p : ℕ) → p < length part / 4 → PolicyFits c.states p (byte part (p * 4)) (byte part (p * 4 + 1)) (byte part (p * 4 + 2)) (byte part (p * 4 + 3))) → Says x (Policies b)
+  fits_policies x r d =
+      let size : masks - 4 - policies ≡ P b * 4 = omega (arith, o.policies_at, o.masks_at) in
+      each (omega (arith, part_long b (at4 b + 4) (P b * 4) (omega (arith, r.policies.0)))) (λ p l. rw (same p l 0 (p * 4) (omega arith) (omega arith), same p l 1 _ (omega arith) refl, same p l 2 _ (omega arith) refl, same p l 3 _ (omega arith) refl) refl) (rw (size, o.policies_at, o.counts.states) at (says {b = x} d))
+    where
+      same : (p : ℕ) → p < P b → (i k : ℕ) → i < 4 → k ≡ p * 4 + i → byte (take (P b * 4) (drop (at4 b + 4) b)) k ≡ field b p i
+      same p l i k h e = part_byte b (at4 b + 4) (P b * 4) k (omega arith) ∙ ap (byte b) (omega arith)
 
-  pub fits_masks : (x : Bool) → Decides x ((k : ℕ) → k < resources → MaskFits c.policies (four b (masks + k * 4))) → Says x (Masks b)
-  fits_masks x d =
-      iff
-      (λ h r l. rw (← o.masks_at, ← o.counts.policies) (h r (omega (arith, o.how_many, o.counts.primitives, o.counts.items))))
-      (λ h k l. rw (o.counts.policies, o.masks_at) (h k (omega (arith, o.how_many, o.counts.primitives, o.counts.items))))
-      (says {b = x} d)
+  pub fits_masks : (x : Bool) → Records b → let part = take (length b - masks) (drop masks b) in Decides x ((r : ℕ) → r < length part / 4 → MaskFits c.policies (four part (r * 4))) → Says x (Masks b)
+  fits_masks x r d =
+      let long = part_long b masks (length b - masks) (omega (arith, o.masks_at, r.no_more)) in
+      each (omega (arith, long, o.masks_at, r.no_more)) (λ k l. ap (MaskFits (P b)) (grind (arith, part_byte b masks (length b - masks), o.masks_at, r.no_more))) (rw o.counts.policies at (says {b = x} d))

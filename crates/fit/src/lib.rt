@@ -2,7 +2,7 @@
 
 #![tactic(auto)]
 
-ghost use Rattle.std.specs.Prelude.{◌≡◌, ℕ, ◌+◌, ◌*◌, ◌<◌, ◌≤◌, length};
+ghost use Rattle.std.specs.Prelude.{◌≡◌, ℕ, ◌+◌, ◌*◌, ◌/◌, ◌<◌, ◌≤◌, length};
 ghost use Rattle.model.specs.Decides.{Decides};
 ghost use Rattle.model.specs.Bytes.{byte, four as four_at, NoBitFrom};
 ghost use Rattle.model.specs.SchemeBytes.{Records, BytesFit, MoveFits, PolicyFits, MaskFits};
@@ -63,34 +63,40 @@ fn policy_fits(states: usize, p: usize, kind: u8, k: u8, left: u8, right: u8) ->
     }
 }
 
-// Whether each policy's bytes are what its kind allows.
-fn policies_fit(s: &[u8], at: usize, count: usize, states: usize) -> bool
-    requires { (at + count * 4 ≤ length s.now) × (count ≤ 32) × (states ≤ 16) }
-    ensures { Decides result ((p : ℕ) → p < count → PolicyFits states p (byte s.now (at + p * 4)) (byte s.now (at + p * 4 + 1)) (byte s.now (at + p * 4 + 2)) (byte s.now (at + p * 4 + 3))) }
+// Whether each policy's four bytes are what its kind allows.
+fn policies_fit(policies: &[u8], states: usize) -> bool
+    requires { states ≤ 16 }
+    ensures { Decides result ((p : ℕ) → p < length policies.now / 4 → PolicyFits states p (byte policies.now (p * 4)) (byte policies.now (p * 4 + 1)) (byte policies.now (p * 4 + 2)) (byte policies.now (p * 4 + 3))) }
 {
-    for p in 0..count {
-        let i = at + p * 4;
-        if !policy_fits(states, p, s[i], s[i + 1], s[i + 2], s[i + 3]) {
+    let (chunks, _) = policies.as_chunks::<4>();
+    for (p, &[kind, k, left, right]) in chunks.iter().enumerate() {
+        if !policy_fits(states, p, kind, k, left, right) {
             return false;
         }
     }
     true
 }
 
-// Whether each resource's mask is not zero and has no bit at or above the number of policies.
-fn masks_fit(s: &[u8], at: usize, count: usize, policies: usize) -> bool
-    requires { (at + count * 4 ≤ length s.now) × (count ≤ 26) × (policies ≤ 32) }
-    ensures { Decides result ((k : ℕ) → k < count → MaskFits policies (four_at s.now (at + k * 4))) }
+// Whether a mask is not zero and has no bit at or above the number of policies.
+fn mask_fits(policies: usize, mask: u32) -> bool
+    requires { policies ≤ 32 }
+    ensures { Decides result (MaskFits policies mask) }
 {
-    let mut all: u32 = 0;
-    for r in 0..count {
-        let mask = records::four(s, at + r * 4);
-        if mask == 0 {
+    mask != 0 && u64::from(mask) >> policies == 0
+}
+
+// Whether each resource's mask is of the policies.
+fn masks_fit(masks: &[u8], policies: usize) -> bool
+    requires { policies ≤ 32 }
+    ensures { Decides result ((r : ℕ) → r < length masks.now / 4 → MaskFits policies (four_at masks.now (r * 4))) }
+{
+    let (chunks, _) = masks.as_chunks::<4>();
+    for &bytes in chunks {
+        if !mask_fits(policies, u32::from_le_bytes(bytes)) {
             return false;
         }
-        all |= mask;
     }
-    u64::from(all) >> policies == 0
+    true
 }
 
 // Whether each byte of kinds 2 to 5 is what is said of it.
@@ -103,6 +109,6 @@ pub fn bytes_fit(s: &[u8], c: Summary) -> bool
     let masks = c.masks_at();
     moves_fit(&s[14..marks - 4], c.states)
         && marks_fit(&s[marks..policies - 4])
-        && policies_fit(s, policies, c.policies, c.states)
-        && masks_fit(s, masks, c.resources(), c.policies)
+        && policies_fit(&s[policies..masks - 4], c.states)
+        && masks_fit(&s[masks..], c.policies)
 }

@@ -1,4 +1,4 @@
-// The five kinds of request, with their numbers (document 01, "The calls").
+// The five kinds of request, with their members, resources and policies (document 01, "The calls").
 
 #![tactic(auto)]
 

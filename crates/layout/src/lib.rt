@@ -2,9 +2,9 @@
 
 #![tactic(auto)]
 
-ghost use Rattle.std.specs.Prelude.{◌≡◌, ◌≤◌, length, MatchOption};
+ghost use Rattle.std.specs.Prelude.{◌≡◌, ◌≤◌, [], ◌∷◌, length, MatchOption};
 ghost use Rattle.model.specs.Decides.{Decides};
-ghost use Rattle.model.specs.SchemeBytes.{Records};
+ghost use Rattle.model.specs.SchemeBytes.{n, S, A, I, P, Records};
 ghost use Rattle.tables.specs.Read.{CountsOf};
 ghost use Rattle.layout.specs.Counted.{Counted};
 
@@ -17,17 +17,32 @@ fn count(x: usize, most: usize) -> Option<usize>
     (1..=most).contains(&x).then_some(x)
 }
 
+// The five counts of the head record, in its order.
+pub fn counts(s: &[u8]) -> [usize; 5]
+    requires { 10 ≤ length s.now }
+    ensures { result ≡ n s.now ∷ S s.now ∷ A s.now ∷ I s.now ∷ P s.now ∷ [] }
+{
+    [
+        records::two(s, 4),
+        usize::from(s[6]),
+        usize::from(s[7]),
+        usize::from(s[8]),
+        usize::from(s[9]),
+    ]
+}
+
 // The five counts, if each is in its range; the marks are read when the scheme is accepted.
-pub fn counts(s: &[u8]) -> Option<Summary>
+pub fn summary(s: &[u8]) -> Option<Summary>
     requires { 10 ≤ length s.now }
     ensures { Counted s.now result }
 {
+    let [members, states, primitives, items, policies] = counts(s);
     Some(Summary {
-        members: count(records::two(s, 4), 256)?,
-        states: count(usize::from(s[6]), 16)?,
-        primitives: count(usize::from(s[7]), 8)?,
-        items: count(usize::from(s[8]), 16)?,
-        policies: count(usize::from(s[9]), 32)?,
+        members: count(members, 256)?,
+        states: count(states, 16)?,
+        primitives: count(primitives, 8)?,
+        items: count(items, 16)?,
+        policies: count(policies, 32)?,
         marks: 0,
     })
 }

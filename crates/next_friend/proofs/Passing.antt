@@ -16,9 +16,6 @@ pub record Passed (g : Graph) (m : ℕ) (seen : List ℕ) (from k : ℕ) : Type 
   pub onward : from ≤ k
   pub passed : (j : ℕ) → j < k → from ≤ j → Friends g m j → 1 ≤ get_or seen j 0
 
-pub pass_none : {g : Graph} {m : ℕ} {seen : List ℕ} {from : ℕ} → Passed g m seen from from
-pass_none = record { onward = omega arith; passed = λ j l a f. absurd (omega arith) }
-
 module _ {g : Graph} {m : ℕ} {seen : List ℕ} {from k : ℕ} (x : Passed g m seen from k) where
   -- k is seen
   pub pass_seen : (get_or seen k 0 ≡ 0 → ⊥) → Passed g m seen from (k + 1)

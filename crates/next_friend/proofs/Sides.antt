@@ -1,8 +1,8 @@
 -- The pair bytes of a member and those on one side of it.
-use Prim.Native.Nat.{ℕ, ◌+◌, ◌%◌, ◌<◌, ◌≤◌}
+use Prim.Native.Nat.{ℕ, ◌%◌, ◌<◌, ◌≤◌}
 use mathlib.Core.Bool.{Bool, true, false, not}
 use mathlib.Core.List.{List}
-use mathlib.Core.Path.{◌≡◌, sym, ap, ◌∙◌}
+use mathlib.Core.Path.{◌≡◌}
 use native.Mathlib.Omega.{arith}
 use borrow.Author.Tests.{ne_eqb}
 use lib.Dec.{eqb}
@@ -23,9 +23,6 @@ place_small false m k a b = omega (arith, pairs_small m a)
 
 pub apart_above : (n k : ℕ) → (n ≡ 0 → ⊥) → Apart (above n) k k
 apart_above n k d = rw (ne_eqb n 0 d) (λ m. omega (arith, pairs_more k))
-
-pub next_placed : (above : Bool) (m k at apart : ℕ) → at ≡ place_on above m k → Apart above k apart → at + apart ≡ place_on above m (k + 1)
-next_placed above m k at apart e p = ap (λ (x : ℕ). x + apart) e ∙ sym (p m)
 
 module _ {b net : List ℕ} {c : Summary} (h : Ready b c net) where
   pub place_inside : (above : Bool) (m k end : ℕ) → OnSide above m k end → k < end → m < c.members → end ≤ c.members

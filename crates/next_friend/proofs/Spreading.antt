@@ -11,6 +11,7 @@ use native.Mathlib.Omega.{arith}
 use lib.ListN.{length, get_or, set, length-set}
 use lib.Seq.{get_or-set_same, get_or-set_other, set-get_or}
 use Rattle.model.specs.Graph.{Graph, Friends}
+use Rattle.next_friend.specs.First.{NoneMarked}
 use Rattle.next_friend.specs.Spread.{Marked, Spread, Run}
 
 -- the mark at k after a store at i: the one stored, or the one that was there
@@ -24,11 +25,6 @@ after l i a k h = go (ℕ_discrete k i)
 
 pub last : {k i : ℕ} → k < i + 1 → (k ≡ i) ⊎ (k < i)
 last l = eq-or-lt_of_le (le_of_suc-le-suc (rw add-one at l))
-
-pub spread_none : {g : Graph} {Tried : ℕ → ℕ → Type 0} {mark : ℕ} {old : List ℕ} → length old ≡ 256
-    → ((j k : ℕ) → Tried j k → 0 < get_or old k 0)
-    → Spread g Tried mark old old
-spread_none l h = record { size = l; marked = λ j k a b t f. h j k t; each = λ k a. inl refl; outside = λ k a. refl }
 
 -- the same marks, where other pairs are the tried ones
 pub spread_same : {g : Graph} {T U : ℕ → ℕ → Type 0} {mark : ℕ} {old new : List ℕ} → Spread g T mark old new → ((j k : ℕ) → T j k → U j k)
@@ -119,6 +115,13 @@ still_marked {old = old} x pos small h = record {
       let z : 0 < get_or old k 0 = h.below k l in
       ⊎_elim (λ w. omega arith) (λ w. omega arith) (x.each k (omega (arith, h.inside)));
 }
+
+-- up to the first without a mark, all have one
+pub marked_to : {from end : ℕ} (marks : List ℕ) → ((k : ℕ) → k < from → 0 < get_or marks k 0) → NoneMarked 0 marks from end
+    → (k : ℕ) → k < end
+    → 0 < get_or marks k 0
+marked_to {from} marks h none k l =
+    elim (dec_lt k from) [ yes a ↦ h k a | no a ↦ let z = none k (omega arith) l in omega arith ]
 
 -- all before a member have a mark
 module _ {g : Graph} {mark m n from : ℕ} {old new : List ℕ} (pos : 0 < mark) (e : n ≡ g.members) (h : Marked n old from) where

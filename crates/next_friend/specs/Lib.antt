@@ -1,3 +1,4 @@
+pub mod First
 pub mod Next
 pub mod Side
 pub mod Spread

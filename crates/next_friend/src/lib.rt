@@ -8,7 +8,7 @@ ghost use Rattle.next_friend.specs.Next.{NextFriend};
 ghost use Rattle.next_friend.specs.Side.{OnSide};
 
 pub mod marks;
-mod side;
+pub mod side;
 
 use network::World;
 use side::Side;

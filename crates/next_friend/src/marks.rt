@@ -1,6 +1,7 @@
 // Marks for the friends of a member, by the pair bytes in their order.
 ghost use Rattle.std.specs.Prelude.{◌≡◌, cond, ◌<◌, ◌≤◌};
 ghost use Rattle.network.specs.Worlds.{members_in, graph_in};
+ghost use Rattle.next_friend.specs.First.{FirstMarked};
 ghost use Rattle.next_friend.specs.Side.{OnSide};
 ghost use Rattle.next_friend.specs.Spread.{Marked, Run, Spread};
 
@@ -46,4 +47,12 @@ pub fn spread(world: &World<'_>, m: usize, mark: u16, from: usize, marks: &mut [
     }
     on_side::<false>(world, m, mark, from, m, marks);
     on_side::<true>(world, m, mark, m + 1, members, marks);
+}
+
+// The first member with a mark, from one on and before an end.
+pub fn first_marked(marks: &[u16; 256], mark: u16, from: usize, end: usize) -> Option<usize>
+    requires { (from ≤ end) × (end ≤ 256) }
+    ensures { FirstMarked mark marks.now from end result }
+{
+    (from..end).find(|k| marks[*k] == mark)
 }

@@ -2,8 +2,8 @@
 
 #![tactic(auto)]
 
-use std::error::Error;
-use std::fmt;
+ghost use Rattle.std.specs.Prelude.{◌≡◌};
+ghost use Rattle.refusals.specs.Numbers.{answer_of};
 
 // The refusals in the order of their numbers.
 #[derive(Clone, Copy, Debug, PartialEq, Eq)]
@@ -40,32 +40,6 @@ pub enum Refusal {
     LogLength,
 }
 
-impl fmt::Display for Refusal {
-    fn fmt<W: fmt::Write>(&self, f: &mut fmt::Formatter<W>) -> fmt::Result {
-        let told = match self {
-            Refusal::Records =>
-                "a record of the scheme is missing, cut, or of another kind or length",
-            Refusal::Counts => "a count of the scheme is outside its range",
-            Refusal::Bytes => "a byte inside a record of the scheme is off",
-            Refusal::Strangers => "strangers are friends or find each other",
-            Refusal::Network => "the length or a byte of the network is off",
-            Refusal::Member => "no such member",
-            Refusal::Resource => "no such primitive, resource or item",
-            Refusal::Oneself => "a primitive towards oneself",
-            Refusal::NotFound => "the member is not found",
-            Refusal::Undefined => "no next state is defined",
-            Refusal::NotAdmitted => "the setting does not admit",
-            Refusal::NotOffered => "the policy may not be chosen",
-            Refusal::Output => "the output is too short",
-            Refusal::LogRecord => "a record of the log is cut, or of another kind or length",
-            Refusal::LogLength => "the log is too long",
-        };
-        f.write_str(told)
-    }
-}
-
-impl Error for Refusal {}
-
 // The number that a call answers.
 impl From<Refusal> for u8 {
     ghost use Rattle.std.specs.Prelude.{◌≡◌};
@@ -95,9 +69,6 @@ impl From<Refusal> for u8 {
 }
 
 // The number of an answer: 0 for a grant.
-ghost use Rattle.std.specs.Prelude.{◌≡◌};
-ghost use Rattle.refusals.specs.Numbers.{answer_of};
-
 pub fn answer<T: Drop>(answered: Result<T, Refusal>) -> u8
     ensures { result ≡ answer_of answered }
 {

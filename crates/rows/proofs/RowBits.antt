@@ -3,9 +3,7 @@ use Prim.Native.Nat.{ℕ, ◌+◌, ◌-◌, ◌*◌, ◌/◌, ◌%◌, ◌^◌, 
 use mathlib.Core.Path.{◌≡◌, sym, ap, ◌∙◌}
 use mathlib.Core.Bool.{Bool, true, false}
 use mathlib.Core.List.{List}
-use mathlib.Core.Logic.{◌⊎◌, ⊎_elim}
 use native.Mathlib.Nat.{mod-lt, div-add-mod}
-use native.Mathlib.Numerals.{add-one}
 use native.Mathlib.Omega.{arith}
 use native.Mathlib.Decide.{dec_lt}
 use borrow.Author.Count.{below_more}
@@ -15,7 +13,6 @@ use Rattle.std.specs.Prelude.{slice_range}
 use Rattle.model.specs.Bytes.{digit, bit}
 use Rattle.model.specs.Graph.{Graph}
 use Rattle.model.proofs.Bits.{digit_of_zero, bit_no}
-use Rattle.model.proofs.Places.{pairs_suc}
 use Rattle.model.proofs.Sets.{Added, added, left_out}
 use Rattle.model.specs.Network.{pairs}
 use Rattle.model.specs.SchemeBytes.{n as members}
@@ -25,7 +22,7 @@ use Rattle.friend_flags.specs.Flags.{Flagged, Packed}
 use Rattle.friend_flags.proofs.Friendships.{flag_bit, flag_small, own_flagged, kept_behind}
 use Rattle.sets.specs.Rows.{row_bit, FriendRow}
 use Rattle.rows.specs.Words.{FirstBits}
-use Rattle.network.proofs.Reading.{friends_byte, friends_outside}
+use Rattle.network.proofs.Reading.{friends_outside}
 
 -- ---- a word, bit by bit
 
@@ -39,36 +36,19 @@ first_next {g} {u} {from} {n} {word} {word'} f a = record {
 pub first_skip : {g : Graph} {u from n word : ℕ} → FirstBits g u from n word → g.friends u (from + n) ≡ false → FirstBits g u from (n + 1) word
 first_skip {n = n} {word = word} f e = first_next f (rw e (left_out word n f.none_above))
 
--- what the code does with the bit of a member who is a friend or not
-abbrev pub BitPut : Bool → ℕ → ℕ → ℕ → Type 0
-BitPut friend n word word' = ((friend ≡ true) × (word' ≡ bit_or word (1 * 2 ^ n % 2 ^ 64))) ⊎ ((friend ≡ false) × (word' ≡ word))
+-- the bit of member m, who is a friend or not
+module _ {g : Graph} {u from m word : ℕ} {friend : Bool} (onward : from ≤ m) (e : friend ≡ g.friends u m) (f : FirstBits g u from (m - from) word) where
+  put : {word' : ℕ} → Added word (m - from) (g.friends u (from + (m - from))) word' → FirstBits g u from (m + 1 - from) word'
+  put a = let next : m + 1 - from ≡ m - from + 1 = omega arith in rw next (first_next f a)
 
-pub first_more : (g : Graph) (u from n word word' : ℕ) {friend : Bool} → n < 64 → friend ≡ g.friends u (from + n) → FirstBits g u from n word
-    → BitPut friend n word word'
-    → FirstBits g u from (n + 1) word'
-first_more g u from n word word' l e f put =
-    first_next f
-    (⊎_elim (λ w. rw (w.1, sym e ∙ w.0) (added 64 word n l f.none_above)) (λ w. rw (w.1, sym e ∙ w.0) (left_out word n f.none_above)) put)
+  here : g.friends u (from + (m - from)) ≡ friend
+  here = let p : from + (m - from) ≡ m = omega arith in rw p (sym e)
 
--- the bit of member m above u, whose state stands at a place; the next one's place is m further
-pub first_above : {b net : List ℕ} {c : Summary} (ready : Ready b c net) (u from m at word word' : ℕ) {friend : Bool} → from ≤ m → m < from + 64 → u < m
-    → m < c.members
-    → at ≡ pairs m + u
-    → friend ≡ bit c.marks (get_or net at 0 % 32)
-    → FirstBits (graph_of b net) u from (m - from) word
-    → BitPut friend (m - from) word word'
-    → FirstBits (graph_of b net) u from (m + 1 - from) word' × (at + m ≡ pairs (m + 1) + u)
-first_above {b} {net} ready u from m at word word' {friend} a l d i p e f put =
-    (rw next (first_more (graph_of b net) u from (m - from) word word' (omega arith) (rw here (friends_byte ready u m at d i p e).0) f put), further)
-  where
-    here : from + (m - from) ≡ m
-    here = omega arith
+  pub first_friend : m < from + 64 → friend ≡ true → FirstBits g u from (m + 1 - from) (bit_or word (1 * 2 ^ (m - from) % 2 ^ 64))
+  first_friend l y = put (rw (here ∙ y) (added 64 word (m - from) (omega arith) f.none_above))
 
-    next : m + 1 - from ≡ m - from + 1
-    next = omega arith
-
-    further : at + m ≡ pairs (m + 1) + u
-    further = rw (add-one m) (omega (arith, pairs_suc m))
+  pub first_stranger : friend ≡ false → FirstBits g u from (m + 1 - from) word
+  first_stranger n = put (rw (here ∙ n) (left_out word (m - from) f.none_above))
 
 -- nobody is there above
 pub first_all : (b net : List ℕ) (u from n word : ℕ) → n ≤ 64 → ((k : ℕ) → n ≤ k → k < 64 → members b ≤ from + k)

@@ -8,6 +8,7 @@ ghost use Rattle.sets.specs.Rows.{FriendRow};
 ghost use Rattle.rows.specs.Words.{FirstBits};
 
 use network::World;
+use next_friend::side::Side;
 use std::array;
 
 // The first bits of u's row from a member on, all of members below u: their states stand side by side.
@@ -25,21 +26,21 @@ fn lesser(world: &World<'_>, u: usize, from: usize, end: usize) -> u64
     friend_flags::word(&flags, 0)
 }
 
-// The 64 bits of u's row from a member on, the first of them given, the others all of members above u: the state with the
-// next member stands m further.
+// The 64 bits of u's row from a member on, the first of them given, the others all of members above u.
 fn greater(world: &World<'_>, u: usize, from: usize, start: usize, below: u64) -> u64
     requires { (u < from + start) × (from ≤ 192) × (start ≤ 64) × FirstBits (graph_in world.now) u from start below }
     ensures { FirstBits (graph_in world.now) u from 64 result }
 {
     let first = from + start;
     let end = world.members().min(from + 64);
+    if first >= end {
+        return below;
+    }
     let mut bits = below;
-    let mut at = network::pairs(first) + u;
-    for m in first..end {
-        if network::marked(world.scheme.counts.marks, world.network[at]) {
+    for (m, friend) in Side::<true>::new(world, u, first, end) {
+        if friend {
             bits |= 1u64 << (m - from);
         }
-        at += m;
     }
     bits
 }

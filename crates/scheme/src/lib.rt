@@ -14,7 +14,7 @@ pub fn check<'a>(bytes: &'a [u8]) -> Result<Scheme<'a>, Refusal>
     if !records::record_at(bytes, 0, 1, 6) {
         return Err(Refusal::Records);
     }
-    let counts = layout::counts(bytes).ok_or(Refusal::Counts)?;
+    let counts = layout::summary(bytes).ok_or(Refusal::Counts)?;
     if !layout::records(bytes, counts) {
         return Err(Refusal::Records);
     }

@@ -6,9 +6,9 @@ use mathlib.Core.List.{List}
 use mathlib.Core.Logic.{inl, inr, ⊎_elim}
 use native.Mathlib.Decide.{dec_lt}
 use native.Mathlib.Omega.{arith}
-use borrow.Author.Count.{below_none, below_more}
+use borrow.Author.Count.{below_more}
 use lib.Dec.{eqb}
-use lib.ListN.{length, get_or, set, length-set}
+use lib.ListN.{get_or, set, length-set}
 use Rattle.std.proofs.Common.{Option, None, Some, IfSome}
 use Rattle.std.specs.Option.{option_eq}
 use Rattle.model.specs.Decides.{Decides}
@@ -19,9 +19,9 @@ use Rattle.starts.specs.Starts.{Begun, StartsAdded}
 use Rattle.starts.proofs.OneStored.{Stored, one_stored}
 
 -- where k is the one that is named, and none of a set
-pub named_other : (Of : ℕ → Type 0) {r : Bool} (u : Option ℕ) (k : ℕ) → IfSome u (λ x. Of x → ⊥) → r ≡ not (option_eq eqb (Some k) u) → r ≡ false → Of k → ⊥
-named_other Of None k h e f o = absurd (true≢false (sym e ∙ f))
-named_other Of (Some x) k h e f o = let d : k ≡ x = passed (eqb k x) (sym e ∙ f) (decided (is_eq k x)) in h (rw d at o)
+pub named_other : (Of : ℕ → Type 0) {n : ℕ} {r : Bool} (u : Option ℕ) (k : ℕ) → IfSome u (λ x. x < n → Of x → ⊥) → r ≡ not (option_eq eqb (Some k) u) → r ≡ false → k < n → Of k → ⊥
+named_other Of None k h e f b o = absurd (true≢false (sym e ∙ f))
+named_other Of (Some x) k h e f b o = let d : k ≡ x = passed (eqb k x) (sym e ∙ f) (decided (is_eq k x)) in h (rw d at b) (rw d at o)
 
 -- the same set, told otherwise
 pub starts_as : {n i : ℕ} {Of Of' : ℕ → Type 0} {before seen : List ℕ} → ((k : ℕ) → k < n → Of k → Of' k) → ((k : ℕ) → Of' k → Of k)
@@ -74,18 +74,18 @@ module _ {n i : ℕ} {Of : ℕ → Type 0} {before seen : List ℕ} (x : StartsA
     add_allowed z e d = add z (said_yes e d)
 
 -- nobody was seen, the viewer's friends are, and the viewer joins them
-pub begun : {w : World} {v : ℕ} {before seen : List ℕ} → Spread w.graph (λ j k. j ≡ v) 1 before seen → ((k : ℕ) → get_or before k 0 ≡ 0)
+pub begun : {w : World} {v : ℕ} {before seen : List ℕ} → Spread w.graph (λ j k. j ≡ v) 1 before seen → ((k : ℕ) → k < 256 → get_or before k 0 ≡ 0)
     → ((k : ℕ) → w.graph.friends v k ≡ w.graph.friends k v)
     → w.graph.members ≤ 256
     → v < w.graph.members
     → Begun w v (set seen v 1)
 begun {v = v} {seen = seen} x z both small b = record {
   long = simp length-set x.size;
-  low = λ k a. ⊎_elim (λ q. omega arith) (λ q. ⊎_elim (λ e. omega (arith, z k)) (λ e. omega arith) (x.each k a)) (at k);
+  low = λ k a. ⊎_elim (λ q. omega arith) (λ q. ⊎_elim (λ e. omega (arith, z k (omega arith))) (λ e. omega arith) (x.each k a)) (at k);
   exactly = λ k a. (
     λ h.
         ⊎_elim (λ q. inl q.0)
-        (λ q. inr (⊎_elim (λ e. absurd (omega (arith, z k))) (λ e. both k ∙ rw e.2.2 at e.2.3) (x.each k a)))
+        (λ q. inr (⊎_elim (λ e. absurd (omega (arith, z k (omega arith)))) (λ e. both k ∙ rw e.2.2 at e.2.3) (x.each k a)))
         (at k),
     λ h. ⊎_elim (λ q. omega arith) (λ q. ⊎_elim (λ e. absurd (q.0 e)) (λ f. omega (arith, x.marked v k b a refl (sym (both k) ∙ f))) h) (at k),
   );

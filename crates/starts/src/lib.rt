@@ -26,7 +26,7 @@ pub fn allows(accessor: &Accessor<'_>, u: usize, r: usize) -> bool
 
 // Marks the viewer and its friends as waiting, where nobody is seen.
 pub fn begin(world: &World<'_>, v: usize, seen: &mut [u16; 256])
-    requires { (v < members_in world.now) × ((k : ℕ) → get_or seen.old k 0 ≡ 0) }
+    requires { (v < members_in world.now) × ((k : ℕ) → k < 256 → get_or seen.old k 0 ≡ 0) }
     ensures { Begun (world_in world.now) v seen.new }
 {
     next_friend::marks::spread(world, v, WAITING, 0, seen);
@@ -36,7 +36,7 @@ pub fn begin(world: &World<'_>, v: usize, seen: &mut [u16; 256])
 // Marks the unseen members whose search setting admits the viewer as waiting. The setting of u, if one is named, does not admit
 // the viewer, and is not asked again.
 pub fn search(accessor: &Accessor<'_>, u: Option<usize>, seen: &mut [u16; 256])
-    requires { IfSome u (λ x. Allows (world_asked accessor.now) x 0 accessor.now.v → ⊥) }
+    requires { IfSome u (λ x. x < n accessor.now.scheme → Allows (world_asked accessor.now) x 0 accessor.now.v → ⊥) }
     ensures { SearchAdded (world_asked accessor.now) accessor.now.v seen.old (n accessor.now.scheme) seen.new }
 {
     for k in 0..accessor.world.members() {

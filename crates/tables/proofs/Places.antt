@@ -6,18 +6,16 @@ use Rattle.model.specs.SchemeBytes.{at3, at4, at5}
 use Rattle.tables.specs.Read.{CountsOf}
 use Rattle.tables.specs.declared.counts.Summary.{Summary}
 
--- where the code finds the bodies of kinds 3 to 5, and how many resources there are
-pub record Places (b : List ℕ) (c : Summary) (marks policies masks resources : ℕ) : Type 0 where
+-- where the code finds the bodies of kinds 3 to 5
+pub record Places (b : List ℕ) (c : Summary) (marks policies masks : ℕ) : Type 0 where
   pub counts : CountsOf b c
   pub marks_at : marks ≡ at3 b + 4
   pub policies_at : policies ≡ at4 b + 4
   pub masks_at : masks ≡ at5 b + 4
-  pub how_many : resources ≡ 2 + c.primitives + c.items
 
-pub places : {b : List ℕ} {c : Summary} {marks policies masks resources : ℕ} → CountsOf b c
+pub places : {b : List ℕ} {c : Summary} {marks policies masks : ℕ} → CountsOf b c
     → ((x : List ℕ) → CountsOf x c → marks ≡ at3 x + 4)
     → ((x : List ℕ) → CountsOf x c → policies ≡ at4 x + 4)
     → ((x : List ℕ) → CountsOf x c → masks ≡ at5 x + 4)
-    → resources ≡ 2 + c.primitives + c.items
-    → Places b c marks policies masks resources
-places {b} k f g h e = record { counts = k; marks_at = f b k; policies_at = g b k; masks_at = h b k; how_many = e }
+    → Places b c marks policies masks
+places {b} k f g h = record { counts = k; marks_at = f b k; policies_at = g b k; masks_at = h b k }

@@ -15,11 +15,13 @@ use Rattle.model.specs.Graph.{Graph, Friends}
 use Rattle.model.specs.Finding.{World, paths, Goes, Finds, Allows}
 use Rattle.model.specs.SchemeBytes.{n}
 use Rattle.model.proofs.Walking.{further}
+use Rattle.next_friend.specs.First.{FirstMarked}
+use Rattle.next_friend.proofs.Spreading.{marked_to}
 use Rattle.prepared.specs.Asking.{Asking, world_asked, graph_asked}
 use Rattle.starts.specs.Starts.{StartsAdded}
 use Rattle.starts.proofs.OneStored.{Stored, one_stored}
 use Rattle.starts.proofs.StartsMarked.{add, skip_to, starts_as}
-use Rattle.walk.specs.Walks.{sought, NobodyWaits, AllSeen, FirstMarked, NoneMarked, Met, Expanded, Unmet, WalkFor}
+use Rattle.walk.specs.Walks.{sought, NobodyWaits, AllSeen, Met, Expanded, Unmet, WalkFor}
 use Rattle.walk.proofs.SumsFall.{sum_below, one_falls}
 
 -- what is left to do: two steps for an unseen member, one for a waiting one
@@ -59,14 +61,8 @@ pub record Chosen (w : World) (v u m : ℕ) (first seen : List ℕ) : Type 0 whe
 -- everyone below the first unseen is seen
 pub first_unseen : {from end x : ℕ} (seen : List ℕ) (r : Option ℕ) → AllSeen from seen → FirstMarked 0 seen from end r → x ≡ unwrap_or r end
     → (x ≤ end) × AllSeen x seen
-first_unseen {from} {end} {x} seen r a f e = go r f e
-  where
-    upto : (i : ℕ) → NoneMarked 0 seen from i → AllSeen i seen
-    upto i none k b = elim (dec_lt k from) [ yes l ↦ a k l | no l ↦ let z = none k (omega arith) b in omega arith ]
-
-    go : (r : Option ℕ) → FirstMarked 0 seen from end r → x ≡ unwrap_or r end → (x ≤ end) × AllSeen x seen
-    go None f e = (omega arith, rw e (upto end f))
-    go (Some i) f e = (omega (arith, f.1), rw e (upto i f.3))
+first_unseen seen None a f e = (omega arith, rw e (marked_to seen a f))
+first_unseen seen (Some i) a f e = (omega (arith, f.1), rw e (marked_to seen a f.3))
 
 -- b is a as its world has it
 module _ {a b : Asking} {members : ℕ} (same : b ≡ a) (counted : members ≡ n b.scheme) where

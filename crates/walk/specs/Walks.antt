@@ -17,15 +17,6 @@ NobodyWaits i seen = (k : ℕ) → k < i → get_or seen k 0 ≡ 1 → ⊥
 abbrev pub AllSeen : ℕ → List ℕ → Type 0
 AllSeen i seen = (k : ℕ) → k < i → 1 ≤ get_or seen k 0
 
--- nobody from a member on, before an end, has that mark
-abbrev pub NoneMarked : ℕ → List ℕ → ℕ → ℕ → Type 0
-NoneMarked mark seen from end = (k : ℕ) → from ≤ k → k < end → get_or seen k 0 ≡ mark → ⊥
-
--- the first who has it, if there is one
-abbrev pub FirstMarked : ℕ → List ℕ → ℕ → ℕ → Option ℕ → Type 0
-FirstMarked mark seen from end (Some r) = (from ≤ r) × (r < end) × (get_or seen r 0 ≡ mark) × NoneMarked mark seen from r
-FirstMarked mark seen from end None = NoneMarked mark seen from end
-
 -- s is a member, and a friend of m
 abbrev pub Met : Graph → ℕ → ℕ → Type 0
 Met g m s = (s < g.members) × Friends g m s

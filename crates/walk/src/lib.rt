@@ -7,27 +7,15 @@ ghost use Rattle.model.specs.Graph.{Friends};
 ghost use Rattle.model.specs.SchemeBytes.{n};
 ghost use Rattle.network.specs.Worlds.{members_in, graph_in};
 ghost use Rattle.prepared.specs.Asking.{world_asked};
-ghost use Rattle.walk.specs.Walks.{sought, AllSeen, FirstMarked, Met, Expanded, Walk, Unmet, Walked};
+ghost use Rattle.walk.specs.Walks.{sought, AllSeen, Met, Expanded, Walk, Unmet, Walked};
 
 use network::World;
+use next_friend::marks::first_marked;
 use prepared::Accessor;
 use starts::WAITING;
 
 // Of a member that was expanded.
 const EXPANDED: u16 = 2;
-
-// The first member with a mark, from one on and before an end.
-fn first_marked(seen: &[u16; 256], mark: u16, from: usize, end: usize) -> Option<usize>
-    requires { (from ≤ end) × (end ≤ 256) }
-    ensures { FirstMarked mark seen.now from end result }
-{
-    for k in from..end {
-        if seen[k] == mark {
-            return Some(k);
-        }
-    }
-    None
-}
 
 // Marks the unseen friends of m as waiting, unless u, if one is named, is met among them. Everyone below a member is seen.
 // Returns a member, at most m, below whom no mark changed; none where u is met.

@@ -1,11 +1,12 @@
 use Rattle.std.proofs.Common.{arith, refl, subst}
+use Rattle.std.proofs.lemmas.List.{get_or-replicate}
 use Rattle.prepared.specs.Asking.{Asking, world_asked}
 use Rattle.starts.specs.Starts.{Begun}
-use Rattle.finding.proofs.ExactlyFound.{all_zero, found_allowed, not_allowed, begun_walk, searched_walk, searched_unmet, walks_decide}
+use Rattle.finding.proofs.ExactlyFound.{found_allowed, not_allowed, begun_walk, searched_walk, searched_unmet, walks_decide}
 use Rattle.finding.proofs.finds.Goals as goal
 
 pub begin-requires : goal.begin-requires
-begin-requires c = (c.accessor.invariant.0, all_zero 256)
+begin-requires c = (c.accessor.invariant.0, λ k b. get_or-replicate 256 k 0 0 b)
 
 pub returns-then-seen-u-ne0 : goal.returns-then-seen-u-ne0
 returns-then-seen-u-ne0 c =

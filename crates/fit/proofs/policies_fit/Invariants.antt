@@ -6,4 +6,4 @@ use Rattle.fit.proofs.policies_fit.Given as goal
 
 abbrev pub invariant-loop-p : goal.invariant-loop-p
 invariant-loop-p l =
-    (q : ℕ) → q < l.p → PolicyFits l.states q (byte l.s (l.at + q * 4)) (byte l.s (l.at + q * 4 + 1)) (byte l.s (l.at + q * 4 + 2)) (byte l.s (l.at + q * 4 + 3))
+    (q : ℕ) → q < l.p → PolicyFits l.states q (byte l.policies (q * 4)) (byte l.policies (q * 4 + 1)) (byte l.policies (q * 4 + 2)) (byte l.policies (q * 4 + 3))

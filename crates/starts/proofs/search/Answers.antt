@@ -19,7 +19,7 @@ loop-k-preserved c =
           rw w.seen-is
           (elim w.else-seen-k-eq0.branch [
             | else-seen-k-eq0-via-then-seen-k-eq0+then-ne+else-allows q ↦ skip_refused x q.if-allows.false q.allows.ensures
-            | else-seen-k-eq0-via-then-seen-k-eq0+else-ne q ↦ skip_other x (named_other _ c.args.u c.loop-k.k c.requires q.ne.ensures q.if-ne.false)
+            | else-seen-k-eq0-via-then-seen-k-eq0+else-ne q ↦ skip_other x (named_other _ c.args.u c.loop-k.k c.requires q.ne.ensures q.if-ne.false below)
             | else-seen-k-eq0-via-else-seen-k-eq0 q ↦ skip_seen x q.if-seen-k-eq0.false
           ])
     ]
