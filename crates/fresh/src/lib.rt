@@ -27,12 +27,9 @@ fn fill(scheme: &Scheme<'_>, network: &mut [u8], from: usize)
     ensures { AllFilled (scheme_in scheme.now) network.old from scheme.now.counts.members (2 + scheme.now.counts.primitives + scheme.now.counts.items) network.new }
 {
     let resources = scheme.counts.resources();
-    let mut settings = [0u8; 26];
-    let settings = &mut settings[..resources];
-    fill_member(scheme, settings);
     for m in 0..scheme.counts.members {
         let at = from + m * resources;
-        network[at..at + resources].copy_from_slice(settings);
+        fill_member(scheme, &mut network[at..at + resources]);
     }
 }
 

@@ -17,8 +17,8 @@ pub record Sources (w : World) (v : ℕ) (found near friends : List ℕ) (rows :
   pub own : FriendRow w.graph v friends
   pub table : IfSome rows (λ r. AllRows w.graph r.now)
 
-abbrev pub Sound : Held → Type 0
-Sound s = Sources (world_in s.world) s.v s.found.now s.near s.friends s.rows
+abbrev pub Sound : Held → List ℕ → Type 0
+Sound s found = Sources (world_in s.world) s.v found s.near s.friends s.rows
 
 -- r is how many friends m shares with v; 0 where m may not be suggested to v
 pub record Ranked (w : World) (v m r : ℕ) : Type 0 where

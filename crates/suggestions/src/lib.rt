@@ -10,12 +10,11 @@ ghost use Rattle.suggestions.specs.Answered.{SuggestCalled};
 use network::World;
 use refusals::Refusal;
 
-// What v's ranks are read from: whom v finds, who is near, v's friends, and a table of all rows, if there is one.
+// What v's ranks are read from, beside whom v finds: who is near, v's friends, and a table of all rows, if there is one.
 #[derive(Clone, Copy)]
 struct Sources<'a> {
     world: World<'a>,
     v: usize,
-    found: &'a [u16; 256],
     near: [u64; 4],
     friends: [u64; 4],
     rows: Option<&'a [[u64; 4]; 256]>,
@@ -23,12 +22,12 @@ struct Sources<'a> {
 
 impl Sources<'_> {
     // How many friends m shares with v; 0 where m may not be suggested: v does not find it, or it is v, a friend, or not near.
-    fn rank(&self, m: usize) -> u32
-        requires sound { Sound self.now }
+    fn rank(&self, found: &[u16; 256], m: usize) -> u32
+        requires sound { Sound self.now found.now }
         requires member { m < members_in self.now.world }
         ensures { Ranked (world_in self.now.world) self.now.v m result }
     {
-        if self.found[m] == 0 {
+        if found[m] == 0 {
             return 0;
         }
         if m == self.v {
@@ -43,23 +42,22 @@ impl Sources<'_> {
         sets::shared(self.friends, row_table::row(&self.world, self.rows, m))
     }
 
-    // The ranks of all members.
-    fn ranks(&self) -> [u32; 256]
-        requires { Sound self.now }
-        ensures { RanksBelow (world_in self.now.world) self.now.v (members_in self.now.world) result }
+    // Writes the ranks of all members.
+    fn write_ranks(&self, found: &[u16; 256], ranks: &mut [u32; 256])
+        requires { Sound self.now found.now × RanksBelow (world_in self.now.world) self.now.v 0 ranks.old }
+        ensures { RanksBelow (world_in self.now.world) self.now.v (members_in self.now.world) ranks.new }
     {
-        let mut ranks = [0u32; 256];
         for m in 0..self.world.members() {
-            ranks[m] = self.rank(m);
+            ranks[m] = self.rank(found, m);
         }
-        ranks
     }
 }
 
-// The ranks of all members for v, by the table of all rows where many are near.
-fn ranks_for(world: &World<'_>, v: usize) -> [u32; 256]
-    requires { v < members_in world.now }
-    ensures { RanksBelow (world_in world.now) v (members_in world.now) result }
+// Writes the ranks of all members for v, by the table of all rows where many are near. They are lent: an array handed back would be
+// copied.
+fn write_ranks_for(world: &World<'_>, v: usize, ranks: &mut [u32; 256])
+    requires { (v < members_in world.now) × RanksBelow (world_in world.now) v 0 ranks.old }
+    ensures { RanksBelow (world_in world.now) v (members_in world.now) ranks.new }
 {
     let found = checks::everyone(world, v);
     let friends = rows::friend_row(world, v);
@@ -67,13 +65,13 @@ fn ranks_for(world: &World<'_>, v: usize) -> [u32; 256]
     let sources = Sources {
         world: *world,
         v,
-        found: &found,
         near,
         friends,
         rows: None,
     };
     if sets::shared(near, near) <= 32 {
-        return sources.ranks();
+        sources.write_ranks(&found, ranks);
+        return;
     }
     let mut rows = [[0u64; 4]; 256];
     row_table::fill_rows(world, &mut rows);
@@ -81,7 +79,7 @@ fn ranks_for(world: &World<'_>, v: usize) -> [u32; 256]
         rows: Some(&rows),
         ..sources
     }
-    .ranks()
+    .write_ranks(&found, ranks);
 }
 
 // Suggest: the first c of the members that v might know. A grant says how many it wrote.
@@ -98,6 +96,7 @@ pub fn suggest(
     if output.len() < c {
         return Err(Refusal::Output);
     }
-    let ranks = ranks_for(&world, v);
+    let mut ranks = [0u32; 256];
+    write_ranks_for(&world, v, &mut ranks);
     Ok(page::fill(output, c, &ranks))
 }

@@ -18,4 +18,4 @@ pub returns : goal.returns
 returns c =
     let w = c.args.self.now.world in
     rank_shared c.requires.sound (omega (arith, w.ready.counts.members, w.scheme.counts.few_members.1)) (omega (arith, w.ready.counts.members))
-    c.if-self-m-eq0.false c.if-m-self.false c.has.ensures c.if-has.false c.row.ensures c.shared.ensures
+    c.if-found-m-eq0.false c.if-m-self.false c.has.ensures c.if-has.false c.row.ensures c.shared.ensures
