@@ -1,7 +1,7 @@
-//! The gatekeeper of document 01, and document 02's suggestions, as a plain Rust program, to compare the library's speed and
-//! answers with. It reads the scheme into structs and then follows the documents' sentences. It comes in three forms: LISTS
-//! lists every member's friends once a request; PAIRS reads a member's friends off the pair bytes where they are asked for; ROWS
-//! sets every member's friends as bits once a request, and counts shared friends by words of them.
+//! The gatekeeper of document 01, and document 02's suggestions, for schemes without a sixth record, as a plain Rust program, to
+//! compare the library's speed and answers with. It reads the scheme into structs and then follows the documents' sentences. It
+//! comes in three forms: LISTS lists every member's friends once a request; PAIRS reads a member's friends off the pair bytes where
+//! they are asked for; ROWS sets every member's friends as bits once a request, and counts shared friends by words of them.
 
 use std::borrow::Cow;
 use std::cmp::Reverse;

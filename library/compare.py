@@ -1,6 +1,6 @@
 #!/usr/bin/env python3
-"""Compares the calls with tools/reference.py on random schemes and networks, valid and damaged. It stops at the first
-difference."""
+"""Compares the calls with tools/reference.py on random schemes, with groups and without, and networks, valid and damaged. It
+stops at the first difference."""
 import ctypes
 import os
 import random
@@ -19,8 +19,8 @@ REQUESTS = 20
 UNTOUCHED = 999
 NONE = 65535            # what stands in the place lent for a degree
 LARGEST = 2 ** 64 - 1
-FEWEST = 40             # how often each kind of degree and of suggestions has to occur
-degrees, pages = Counter(), Counter()
+FEWEST = 40             # how often each kind of scheme, of degree and of suggestions has to occur
+schemes, degrees, pages = Counter(), Counter(), Counter()
 
 
 def expect(what, got, wanted):
@@ -71,6 +71,10 @@ def compare_suggest(scheme, network, v, c, places):
     output, wanted_output = (ctypes.c_uint16 * places)(*[UNTOUCHED] * places), [UNTOUCHED] * places
     answer, number = ref.suggest(scheme, network, v, c, wanted_output)
     pages['refused' if answer else 'nobody' if number == 0 else 'c' if number == c else 'fewer'] += 1
+    if answer == 0:
+        other = [UNTOUCHED] * places
+        ref.suggest(cases.regrouped(scheme, None), network, v, c, other)
+        pages['by groups'] += other != wanted_output
     count = ctypes.c_size_t(UNTOUCHED)
     got = gatekeeper._request('suggest', scheme, network, False, output, places, ctypes.byref(count), v=v, c=c)
     expect('suggest', got, answer)
@@ -104,12 +108,18 @@ def compare_request(rng, scheme, network, members):
     network[:] = wanted
 
 
+def kind_of_groups(read):
+    return 'five records' if read.groups is None else 'groups' if ref.group_members(read) else 'persons'
+
+
 def compare_scheme(rng):
     members = rng.randrange(1, 9)
     scheme = cases.accepted_scheme(rng, (members, rng.randrange(1, 6), rng.randrange(1, 5), rng.randrange(1, 5), rng.randrange(1, 9)))
     if rng.randrange(4) == 0:
         scheme = cases.damaged(rng, scheme)
-    expect('check', gatekeeper.check(scheme), ref.check(scheme))
+    answer, read = ref.read_scheme(scheme)
+    schemes['refused' if answer else kind_of_groups(read)] += 1
+    expect('check', gatekeeper.check(scheme), answer)
     length = ref.network_length(ref.read_scheme(scheme)[1].counts) if ref.check(scheme) == 0 else 0
     expect('length', gatekeeper.network_length(scheme), length)
     network = bytearray(rng.randrange(256) for _ in range(rng.randrange(200)))
@@ -131,10 +141,11 @@ def main():
     rng = random.Random(1)
     for _ in range(ROUNDS):
         compare_scheme(rng)
-    if min(degrees[kind] for kind in ('number', 'none', 'refused')) < FEWEST:
-        sys.exit('too few degrees of a kind: %s' % dict(degrees))
-    if min(pages[kind] for kind in ('c', 'fewer', 'nobody', 'refused')) < FEWEST:
-        sys.exit('too few suggestions of a kind: %s' % dict(pages))
+    for what, counted, kinds in (('schemes', schemes, ('refused', 'five records', 'persons', 'groups')),
+                                 ('degrees', degrees, ('number', 'none', 'refused')),
+                                 ('suggestions', pages, ('c', 'fewer', 'nobody', 'refused', 'by groups'))):
+        if min(counted[kind] for kind in kinds) < FEWEST:
+            sys.exit('too few %s of a kind: %s' % (what, dict(counted)))
     print('library: %d random schemes with %d requests, degrees and suggestions each answer as reference.py does' % (ROUNDS, REQUESTS))
 
 

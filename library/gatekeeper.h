@@ -12,7 +12,7 @@
  * - While a call runs, no other thread writes anything lent to it, or reads a network, an output, a count or a degree that it
  *   may write: one thread at a time for each network. The library itself keeps nothing between calls.
  *
- * A call needs less than 20 kilobytes of stack, allocates nothing and calls nothing outside the library but memset, the one
+ * A call needs less than 24 kilobytes of stack, allocates nothing and calls nothing outside the library but memset, the one
  * symbol that the archive leaves undefined: given that, it links with -nostdlib. */
 #ifndef GATEKEEPER_H
 #define GATEKEEPER_H
@@ -27,9 +27,9 @@ extern "C" {
 /* Document 01's answers. A call gives the first refusal that applies. 14 and 15 are answers to logs: no call gives them. */
 enum gatekeeper_answer {
     GATEKEEPER_GRANTED = 0,           /* granted */
-    GATEKEEPER_SCHEME_RECORDS = 1,    /* a record of the scheme is cut, of another kind or length, or bytes follow the fifth */
+    GATEKEEPER_SCHEME_RECORDS = 1,    /* a record of the scheme is cut, of another kind or length, or bytes follow the last */
     GATEKEEPER_SCHEME_COUNTS = 2,     /* a count of the scheme's head is outside its range */
-    GATEKEEPER_SCHEME_BYTES = 3,      /* a byte inside the scheme's kinds 2 to 5 is off */
+    GATEKEEPER_SCHEME_BYTES = 3,      /* a byte inside the scheme's kinds 2 to 6 is off */
     GATEKEEPER_SCHEME_STRANGERS = 4,  /* state 0 makes friends, or the lowest search policy admits strangers */
     GATEKEEPER_NETWORK_BYTES = 5,     /* the network's length is off, or, but in fresh, one of its bytes */
     GATEKEEPER_NO_MEMBER = 6,         /* v or u is no member */
@@ -42,7 +42,8 @@ enum gatekeeper_answer {
     GATEKEEPER_OUTPUT_SHORT = 13      /* the output has fewer places than there are members (list), or than c (suggest) */
 };
 
-/* The scheme check: 0 to 4. */
+/* The scheme check: 0 to 4. A scheme has five records, and may have a sixth that says which members are groups (document 02):
+ * without it all are persons. */
 uint8_t gatekeeper_check(const uint8_t *scheme, size_t scheme_length);
 
 /* How many bytes a network has under an accepted scheme; 0 under any other. */
@@ -76,9 +77,9 @@ uint8_t gatekeeper_list(const uint8_t *scheme, size_t scheme_length, const uint8
                         size_t v, size_t u, uint16_t *output, size_t output_length, size_t *count);
 
 /* Member v asks for c members that it might know: those that v finds, who are neither v nor v's friends and share at least one
- * friend with v, most shared friends first, among equals the lower member number. A grant writes the first c of them, or all
- * if there are fewer, at the front of output, and their number to count; the places behind them stay. A refusal writes
- * neither. There must be c places even where fewer are written. */
+ * friend with v that is no group, most such friends first, among equals the lower member number. They may be groups. A grant
+ * writes the first c of them, or all if there are fewer, at the front of output, and their number to count; the places behind
+ * them stay. A refusal writes neither. There must be c places even where fewer are written. */
 uint8_t gatekeeper_suggest(const uint8_t *scheme, size_t scheme_length, const uint8_t *network, size_t network_length,
                            size_t v, size_t c, uint16_t *output, size_t output_length, size_t *count);
 

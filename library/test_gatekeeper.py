@@ -96,6 +96,31 @@ class Arguments(unittest.TestCase):
         self.assertEqual(gatekeeper.suggest(SCHEME, network[:-1], 4, 1, array('H')), (5, None))
         self.assertEqual(gatekeeper.suggest(b'', network, 4, 1, array('H')), (1, None))
 
+    def test_groups(self):
+        """1 has the friends 0, 2 and 3, and 3 has 0 too. A sixth record says who is a group."""
+        policies = [(0, 0, 0, 0), (1, 0, 0, 0), (4, 1, 0, 0), (3, 2, 0, 0)]
+        for groups, known, members in ((None, True, [2]), ([], True, [2]), ([1], False, []), ([0, 2, 3], True, [2])):
+            scheme = ref.build_scheme((4, 2, 1, 2, 4), {}, {1}, policies, [3, 2, 2, 4, 8], groups)
+            network = bytearray(gatekeeper.network_length(scheme))
+            self.assertEqual(gatekeeper.fresh(scheme, network), 0)
+            for u in (0, 2):
+                self.assertEqual(gatekeeper.set(scheme, network, u, 0, 1), 0)
+            for i, j in ((0, 1), (1, 2), (1, 3), (0, 3)):
+                network[ref.pair_place(i, j)] = 1
+            self.assertEqual(gatekeeper.view(scheme, network, 2, 0, 0), 0 if known else 11)
+            self.assertEqual(gatekeeper.view(scheme, network, 2, 0, 1), 0)
+            self.assertEqual((gatekeeper.view(scheme, network, 1, 0, 0), gatekeeper.degree(scheme, network, 2, 0)), (0, (0, 2)))
+            output = array('H', 4 * [9])
+            self.assertEqual(gatekeeper.suggest(scheme, network, 0, 4, output), (0, len(members)))
+            self.assertEqual(output.tolist(), members + [9] * (4 - len(members)))
+
+    def test_sixth_record(self):
+        sixth = ref.groups_record(4, [3])
+        for more, answer in ((sixth, 0), (sixth[:-1], 1), (sixth[:1], 1), (ref.record(7, sixth[4:]), 1), (sixth + b'\0', 1),
+                             (sixth[:-1] + b'\2', 3)):
+            self.assertEqual(gatekeeper.check(SCHEME + more), answer)
+            self.assertEqual(gatekeeper.network_length(SCHEME + more), 0 if answer else 42)
+
     def test_what_cannot_be_lent(self):
         network = fresh_network()
         self.refused(gatekeeper.check, 'text')

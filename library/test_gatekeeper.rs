@@ -1,4 +1,4 @@
-//! Tests of the Rust wrapper's degree and suggest, from the repository's root over a built library.
+//! Tests of the Rust wrapper's degree and suggest, and of groups, from the repository's root over a built library.
 
 mod gatekeeper;
 
@@ -40,4 +40,24 @@ fn suggest() {
     assert_eq!([suggest(0, 0), suggest(0, 1)], [(Ok(0), [9, 9, 9]), (Ok(1), [2, 9, 9])]);
     assert_eq!([suggest(0, 2), suggest(0, 3)], [(Ok(2), [2, 3, 9]), (Ok(2), [2, 3, 9])]);
     assert_eq!([suggest(0, 4), suggest(4, 4)], [(Err(13), [9, 9, 9]), (Err(6), [9, 9, 9])]);
+}
+
+/// A sixth record after the five of the standard scheme: 1 has the friends 0, 2 and 3, and everyone may search for 2 and 3.
+#[test]
+fn groups() {
+    let (scheme, mut network) = fresh();
+    for m in [2, 3] {
+        assert_eq!(gatekeeper::set(&scheme, &mut network, m, 0, 12), 0);
+    }
+    for pair in [0, 2, 4] {
+        network[pair] = 3;
+    }
+    let with = |sixth: &[u8]| [&scheme[..], sixth].concat();
+    let suggested = |groups: [u8; 4]| {
+        let mut output = [9; 2];
+        (gatekeeper::suggest(&with(&[&[4, 0, 6, 0][..], &groups].concat()), &network, 0, 2, &mut output), output)
+    };
+    assert_eq!([suggested([0, 0, 0, 0]), suggested([1, 0, 1, 1])], [(Ok(2), [2, 3]), (Ok(2), [2, 3])]);
+    assert_eq!([suggested([0, 1, 0, 0]), suggested([0, 2, 0, 0])], [(Ok(0), [9, 9]), (Err(3), [9, 9])]);
+    assert_eq!([gatekeeper::check(&with(&[4, 0, 6, 0, 0, 0, 0])), gatekeeper::check(&with(&[4, 0, 7, 0, 0, 0, 0, 0]))], [1, 1]);
 }

@@ -69,15 +69,27 @@ def random_moves(rng, states, primitives):
             for q in range(states) for b in (0, 1) for a in range(primitives)}
 
 
+def random_groups(rng, n):
+    """The members that are groups: few, half, most or all of them; or None, for no sixth record."""
+    density = rng.choice([None, None, 0, 0.25, 0.25, 0.5, 0.5, 0.75, 1])
+    return None if density is None else [m for m in range(n) if rng.random() < density]
+
+
+def regrouped(scheme, groups):
+    """An accepted scheme with another sixth record, or without one where groups is None."""
+    counts = ref.read_scheme(scheme)[1].counts
+    return scheme[:ref.five_records(counts)] + (b'' if groups is None else ref.groups_record(counts.members, groups))
+
+
 def random_scheme(rng, counts):
-    """A scheme that passes answers 1 to 3."""
+    """A scheme that passes answers 1 to 3, with a sixth record or without."""
     counts = ref.Counts(*counts)
     moves = random_moves(rng, counts.states, counts.primitives)
     friends = {q for q in range(1, counts.states) if rng.randrange(2)}
     policies = [random_policy(rng, p, counts.states) for p in range(counts.policies)]
     masks = [rng.randrange(1, 2 ** counts.policies) & rng.randrange(2 ** counts.policies) or 2 ** (counts.policies - 1)
              for _ in range(ref.resources(counts))]
-    return ref.build_scheme(counts, moves, friends, policies, masks)
+    return ref.build_scheme(counts, moves, friends, policies, masks, random_groups(rng, counts.members))
 
 
 def accepted_scheme(rng, counts):
@@ -135,7 +147,7 @@ def star(rng, n):
     return {(0, j) for j in range(1, n)}
 
 
-def groups(rng, n, size):
+def cliques(rng, n, size):
     """Cliques of one size, each tied to the next by one friendship."""
     graph = chain(rng, n)
     for first in range(0, n, size):
@@ -157,6 +169,24 @@ def near_clique(rng, n):
 def shuffled(rng, n, graph):
     names = rng.sample(range(n), n)
     return {(min(names[i], names[j]), max(names[i], names[j])) for i, j in graph}
+
+
+# ---- Groups: what is counted by definitions that are not document 02's
+
+def shared_otherwise(net, u, v):
+    """How many friends two members share, by wrong definitions."""
+    common = ref.friends_of_both(net.graph, u, v)
+    persons = common - net.groups
+    return {'groups counted': len(common), 'groups counted alone': len(common & net.groups),
+            'friends of a group not counted': 0 if {u, v} & net.groups else len(persons),
+            'the byte before read': len(common - {m + 1 for m in net.groups}),
+            'the byte behind read': len(common - {m - 1 for m in net.groups})}
+
+
+def graph_of_persons(net, u, v):
+    """The graph without the groups but for two members."""
+    hidden = net.groups - {u, v}
+    return [set() if m in hidden else friends - hidden for m, friends in enumerate(net.graph)]
 
 
 # ---- Networks of a graph
@@ -206,6 +236,15 @@ def write(program, groups, given, lines):
     with open(os.path.join(folder, 'stdout'), 'w') as file:
         file.write('\n'.join(stdout) + '\n')
     return total
+
+
+def stop_where_few(counted, fewest, seldom=None):
+    """Prints how often each is so; stops where one is too seldom."""
+    for name, count in sorted(counted.items()):
+        print('%-48s %5d' % (name, count))
+    few = [name for name, count in sorted(counted.items()) if count < (seldom or {}).get(name, fewest)]
+    if few:
+        sys.exit('too few: ' + ', '.join(few))
 
 
 def tally_text(tally):

@@ -9,17 +9,25 @@ Its lines, K being its number from 1:
 """
 import sys
 import zlib
+from collections import Counter
 
 sys.dont_write_bytecode = True      # no __pycache__ in the repository
 import reference as ref
 from cases import (NO_ONE, EVERYONE, OWNER, within, known, clique, state, both, either, changed, damaged, part,
-                   random_scheme, accepted_scheme, random_counts, fresh_network, random_network, off_settings, write)
+                   random_scheme, accepted_scheme, random_counts, regrouped, fresh_network, random_network, off_settings,
+                   stop_where_few, write)
+
+FEWEST = 15         # how often each entry of BEHIND has to occur
+# (the answer to a scheme's first five records, the answer to the scheme): with nothing behind them, and with more
+ALONE = [(0, 0), (3, 3), (4, 4)]
+MORE = [(0, 0), (0, 1), (0, 3), (3, 1), (3, 3), (4, 1), (4, 3), (4, 4)]
+BEHIND = Counter({('five records', *answers): 0 for answers in ALONE} | {('more behind them', *answers): 0 for answers in MORE})
 
 
 # ---- Records
 
 def record_places(counts):
-    """Where the five records start."""
+    """Where the first five records start."""
     places = [0, 10]
     for length in ref.body_lengths(counts)[:3]:
         places.append(places[-1] + 4 + length)
@@ -27,7 +35,7 @@ def record_places(counts):
 
 
 def bodies(scheme):
-    """The bodies of an accepted scheme's five records."""
+    """The bodies of an accepted scheme's first five records."""
     counts = ref.read_scheme(scheme)[1].counts
     return [scheme[at + 4:at + 4 + length]
             for at, length in zip(record_places(counts), [6] + ref.body_lengths(counts))]
@@ -90,9 +98,9 @@ def large_standard_networks(rng):
         yield scheme, bytes_given, 0
     yield scheme, changed(network, pairs - 1, 4), 0
     yield scheme, changed(network, len(network) - 1, 5), 0
-    scheme = ref.standard_scheme(257)
-    for bytes_given in (b'', b'\7', fresh_network(ref.standard_scheme(1))):
-        yield scheme, bytes_given, 2
+    for scheme in (ref.standard_scheme(257), ref.standard_scheme(257, range(257))):
+        for bytes_given in (b'', b'\7', fresh_network(ref.standard_scheme(1))):
+            yield scheme, bytes_given, 2
 
 
 def cut_schemes(rng):
@@ -179,6 +187,59 @@ def bad_bytes(rng):
     # both a 3 and a 4
     yield changed(changed(scheme, marks + 4, 1), marks + 5, 2), network, 3
     yield changed(changed(scheme, marks + 4, 1), len(scheme) - 1, 255), network, 3
+
+
+def good_sixth_records(n):
+    return [ref.groups_record(n, groups) for groups in ([], range(n), [0], [n - 1], range(0, n, 2), range(1, n, 3))]
+
+
+def wrong_sixth_records(n):
+    """What may not stand behind the fifth record: a sixth that is cut, has another kind or length, or is followed by more."""
+    good = ref.groups_record(n, [n - 1])
+    body, sizes = good[4:], range(1, len(good)) if n < 9 else (1, 2, 3, 4, 5, 4 + n // 2, len(good) - 2, len(good) - 1)
+    yield from (good[:size] for size in sizes)
+    yield from (ref.record(kind, body) for kind in (0, 1, 2, 5, 7, 16, 255, 262, 6 * 256, 65535))
+    for wrong in (body[:-1], body + b'\0', body + b'\1', b'', bytes(256 + n), body + body):
+        yield ref.record(6, wrong)                  # the body with the length, and the length alone
+        yield len(wrong).to_bytes(2, 'little') + good[2:]
+    yield from (good[:4] + wrong for wrong in (body + b'\0', body + b'\1'))
+    yield from (good + more for more in (b'\xff', bytes(2), bytes(4), good, ref.record(6, b''), ref.record(7, body)))
+    yield ref.record(7, body) + good
+
+
+def off_sixth_records(n):
+    """Sixth records with a byte other than 0 and 1, and with all so."""
+    good = ref.groups_record(n, [0])
+    for at in sorted({0, n // 2, n - 1}):
+        yield from (changed(good, 4 + at, value) for value in (2, 3, 128, 254, 255))
+    yield ref.record(6, b'\xff' * n)
+    yield ref.record(6, b'\2' * n)
+
+
+def sixth_records(rng):
+    """Each sort of sixth record alone, and with a byte elsewhere that gives 3, or 4, or 2."""
+    for n in (1, 4, 256):
+        scheme = ref.standard_scheme(n)
+        network = random_network(rng, scheme) if n < 9 else b''
+        byte_off, marked, head_off = changed(scheme, 14, 4), changed(scheme, 50, 1), changed(scheme, 6, 17)
+        for sixth in good_sixth_records(n):
+            yield scheme + sixth, network, 0
+            yield byte_off + sixth, network, 3
+            yield marked + sixth, network, 4
+        for sixth in wrong_sixth_records(n):
+            yield scheme + sixth, network, 1
+        for i, sixth in enumerate(wrong_sixth_records(n)):
+            yield (byte_off, marked, changed(byte_off, 51, 2))[i % 3] + sixth, network, 1
+        for i, sixth in enumerate(off_sixth_records(n)):
+            yield scheme + sixth, network, 3
+            yield (marked, byte_off, changed(marked, 14, 4))[i % 3] + sixth, network, 3
+            yield scheme + (sixth[:-1], sixth + b'\0', changed(sixth, 2, 7))[i % 3], network, 1
+        for sixth in (good_sixth_records(n)[0], ref.record(7, bytes(n)), ref.record(6, b'\2' * n)):
+            yield head_off + sixth, network, 2
+        parts = list(zip((1, 2, 3, 4, 5, 6), bodies(scheme) + [bytes(n)]))
+        yield joined(parts[:4] + parts[5:]), network, 1                     # no fifth record, and the sixth before it
+        yield joined(parts[:4] + [parts[5], parts[4]]), network, 1
+        yield scheme[:-1] + ref.groups_record(n, []), network, 1
 
 
 def policies_out_of_range(rng):
@@ -315,10 +376,15 @@ def smallest_scheme(rng):
 
 
 def largest_scheme(rng):
-    scheme = accepted_scheme(rng, ref.LIMITS)
+    scheme = regrouped(accepted_scheme(rng, ref.LIMITS), rng.sample(range(256), 100))
     network = fresh_network(scheme)
+    assert len(scheme) == 790
     yield scheme, b'', 0
     yield scheme, network, 0
+    yield scheme + b'\0', b'', 1
+    yield scheme[:-1], b'', 1
+    yield changed(scheme, 789, 2), b'', 3
+    yield regrouped(scheme, None), b'', 0
     yield scheme, changed(random_network(rng, scheme), ref.pair_count(256) - 1, 16), 0
     yield scheme, changed(random_network(rng, scheme), len(network) - 1, 32), 0
 
@@ -342,7 +408,7 @@ def random_networks(rng):
 
 # the long networks stand last
 GROUPS = [standard_networks, cut_schemes, counts_at_their_ends, bytes_behind, wrong_records, bad_bytes,
-          policies_out_of_range, strangers, long_combinations, smallest_scheme, damaged_schemes, random_networks,
+          sixth_records, policies_out_of_range, strangers, long_combinations, smallest_scheme, damaged_schemes, random_networks,
           large_standard_networks, largest_scheme]
 
 
@@ -352,8 +418,19 @@ def given(scheme, network, wanted):
     return part(scheme) + part(network)
 
 
+def note_sixth_record(scheme, answer):
+    """Counts the answers to schemes that have five records whole."""
+    counts = ref.Counts(ref.number(scheme, 4), *scheme[6:10]) if len(scheme) >= 10 else None
+    if counts is None or answer == 2:
+        return
+    whole = ref.check(scheme[:ref.five_records(counts)])
+    if whole in (0, 3, 4):
+        BEHIND['more behind them' if len(scheme) > ref.five_records(counts) else 'five records', whole, answer] += 1
+
+
 def lines(number, tally, scheme, network, wanted):
     answer, read = ref.read_scheme(scheme)
+    note_sixth_record(scheme, answer)
     if wanted is not None and answer != wanted:
         sys.exit('case %d: %d, but %d is meant' % (number, answer, wanted))
     tally['check %d' % answer] += 1
@@ -370,3 +447,4 @@ def lines(number, tally, scheme, network, wanted):
 
 if __name__ == '__main__':
     write('check_cases', GROUPS, given, lines)
+    stop_where_few({'%s: %d, then %d' % entry: count for entry, count in BEHIND.items()}, FEWEST)

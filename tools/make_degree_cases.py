@@ -9,29 +9,33 @@ A question's line, K being the case's number from 1, and J the question's:
     K J ANSWER      refused
 """
 import sys
+from collections import Counter
 from itertools import islice, product
 
 sys.dont_write_bytecode = True      # no __pycache__ in the repository
 import make_request_cases as requests
 import reference as ref
-from cases import (NO_ONE, EVERYONE, OWNER, within, fresh_network, random_graph, chain, ring, near_clique, groups, shuffled,
-                   graph_network, write)
+from cases import (NO_ONE, EVERYONE, OWNER, within, fresh_network, random_graph, chain, ring, near_clique, cliques, shuffled,
+                   graph_network, graph_of_persons, random_groups, stop_where_few, write)
 from make_admission_cases import all_questions, given
 from make_request_cases import SHAPES, shaped_network, walking_scheme
 
-FEWEST = 40         # how often each answer, none, and the degrees 0 to 3 have to occur
+FEWEST = 40         # how often each answer, none, the degrees 0 to 3, and what is counted in GROUPED have to occur
 SEARCH_BY_EVERYONE, TRAVERSAL_BY_EVERYONE = 12, 4       # policies of the standard scheme
+LONGER, ALONE = 'a degree by groups, longer without', 'a degree by groups alone'
+NONE, OF_GROUP = 'none, with groups', 'a degree of a group'
+GROUPED = Counter({name: 0 for name in (LONGER, ALONE, NONE, OF_GROUP)})
 
 
 # ---- Schemes, each with a network
 
-def all_found(rng, n, graph):
+def all_found(rng, n, graph, groups=None):
     """A network of the graph in which everybody finds everybody: each search setting is the policy that admits everyone. The
     lowest that search offers admits no stranger, as the scheme check asks."""
     states = rng.choice([2, 4, 7, 16])
     friends = {q for q in range(1, states) if rng.randrange(2)} or {states - 1}
     policies = [rng.choice([NO_ONE, OWNER, within(1), within(255)]), EVERYONE]
-    scheme = ref.build_scheme((n, states, 1, 1, 2), {}, friends, policies, [3, 3, 3, 3])
+    scheme = ref.build_scheme((n, states, 1, 1, 2), {}, friends, policies, [3, 3, 3, 3], groups)
     network = bytearray(graph_network(rng, scheme, graph))
     for m in range(n):
         network[ref.setting_place(ref.Counts(n, states, 1, 1, 2), m, ref.SEARCH)] = 1
@@ -96,7 +100,8 @@ def chain_shorter_than_degree(rng):
 def all_pairs(rng):
     for i in range(324):
         n = rng.randrange(1, 13)
-        yield (*all_found(rng, n, shuffled(rng, n, SHAPES[i % len(SHAPES)](rng, n))), all_questions(n))
+        graph = shuffled(rng, n, SHAPES[i % len(SHAPES)](rng, n))
+        yield (*all_found(rng, n, graph, random_groups(rng, n)), all_questions(n))
 
 
 def found_or_not(rng):
@@ -127,22 +132,30 @@ def broken_schemes(rng):
         yield scheme, network, random_questions(rng, 6, 3) + [(0, 0), (65535, 0)]
 
 
+def broken_groups(rng):
+    """Of the requests' schemes with a wrong sixth record every third."""
+    for scheme, network, _ in islice(requests.broken_groups(rng), 0, None, 3):
+        yield scheme, network, random_questions(rng, 6, 2) + [(0, 0), (65535, 0)]
+
+
 def large_networks(rng):
     """64 and 65 members: a friend row of one word, and of a word and a bit."""
     for n in (64, 65):
         asked = [(0, n - 1), (n - 1, 0), (63, n - 1), (n - 1, n), (n, 0)]
         for graph in (random_graph(rng, n, 0.015), random_graph(rng, n, 0.04), ring(rng, n), near_clique(rng, n),
-                      groups(rng, n, 4)):
-            yield (*all_found(rng, n, shuffled(rng, n, graph)), random_questions(rng, n, 24) + asked)
+                      cliques(rng, n, 4)):
+            found = all_found(rng, n, shuffled(rng, n, graph), random_groups(rng, n))
+            yield (*found, random_questions(rng, n, 24) + asked)
         scheme = walking_scheme(rng, n)
         yield scheme, shaped_network(rng, scheme, chain), random_questions(rng, n, 24) + asked
 
 
 def most_members(rng):
-    """256 members: chains, in order and shuffled, whose ends have degree 255; a chain cut in the middle; few friendships."""
+    """256 members: chains, in order, and shuffled with all members groups, whose ends have degree 255; a chain cut in the middle;
+    few friendships."""
     n = 256
-    for graph in (chain(rng, n), shuffled(rng, n, chain(rng, n))):
-        yield (*all_found(rng, n, graph), between_ends(graph) + random_questions(rng, n, 24))
+    for graph, groups in ((chain(rng, n), None), (shuffled(rng, n, chain(rng, n)), range(n))):
+        yield (*all_found(rng, n, graph, groups), between_ends(graph) + random_questions(rng, n, 24))
     cut = list(product((0, 127, 128, 255), repeat=2))
     yield (*all_found(rng, n, chain(rng, n) - {(127, 128)}), cut + random_questions(rng, n, 24))
     yield (*all_found(rng, n, random_graph(rng, n, 0.008)), end_questions(n) + random_questions(rng, n, 40))
@@ -151,16 +164,27 @@ def most_members(rng):
 # ---- What is written
 
 GROUPS = [found_and_not_joined, chain_shorter_than_degree, all_pairs, found_or_not, ends, damaged_networks, broken_schemes,
-          large_networks, most_members]
+          broken_groups, large_networks, most_members]
 
 
 def counted_as(degree):
     return 'none' if degree is None else 'degree %d' % degree if degree < 4 or degree == 255 else 'degree 4 to 254'
 
 
+def grouped_tried(net, v, u, degree):
+    """What groups have to do with a degree that is granted."""
+    if not net.groups or v == u:
+        return {}
+    persons = ref.distance(graph_of_persons(net, v, u), v, u)
+    return {NONE: degree is None, LONGER: persons is not None and persons != degree,
+            ALONE: persons is None and degree is not None, OF_GROUP: degree is not None and not {v, u}.isdisjoint(net.groups)}
+
+
 def lines(number, tally, scheme, network, questions):
+    net = ref.read_network(scheme, network)[1]
     for place, (v, u) in enumerate(questions, 1):
         answer, degree = ref.degree(scheme, network, v, u)
+        GROUPED.update(grouped_tried(net, v, u, degree) if answer == 0 else {})
         printed = [number, place, answer]
         tally['answer %d' % answer] += 1
         if answer == 0:
@@ -177,3 +201,4 @@ if __name__ == '__main__':
     for name, fewest in wanted.items():
         if total[name] < fewest:
             sys.exit('too few: ' + name)
+    stop_where_few(GROUPED, FEWEST)

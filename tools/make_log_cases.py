@@ -7,16 +7,22 @@ Its lines, K being its number from 1:
     end K
 """
 import sys
+from collections import Counter
 from itertools import islice
 
 sys.dont_write_bytecode = True      # no __pycache__ in the repository
 import reference as ref
-from cases import EVERYONE, NO_ONE, OWNER, accepted_scheme, changed, damaged, part, random_counts, write
-from make_request_cases import (CALLS, broken_schemes, every_end, opening, random_requests, search_by_everyone,
-                                walking_scheme)
+from cases import (EVERYONE, NO_ONE, OWNER, known, accepted_scheme, changed, damaged, part, random_counts, random_groups,
+                   regrouped, stop_where_few, write)
+from make_request_cases import (CALLS, broken_groups, broken_schemes, every_end, opening, random_requests, search_by_everyone,
+                                standard_scheme, walking_scheme)
 
-FEWEST = 20         # how often each request has to get each of its answers
-LONGEST = 530       # bytes of the longest scheme that is accepted
+FEWEST = 20         # how often each request has to get each of its answers, and what is counted in GROUPED has to occur
+LONGEST = 790       # bytes of the longest scheme that is accepted
+FIVE_RECORDS = 530  # and of one without a sixth record
+SIXTH = ('five records', 'a sixth record of persons', 'a sixth record with groups')
+OTHERWISE = ('logs with other lines without groups', 'other lines without groups')
+GROUPED = Counter({name: 0 for name in SIXTH + OTHERWISE})
 
 
 # ---- Logs
@@ -71,6 +77,14 @@ def guided_requests(rng, scheme, count):
     return asked
 
 
+# ---- A scheme
+
+def known_scheme(n, groups):
+    """A scheme with groups in which one event makes two members friends, and whoever knows one or two may view."""
+    return ref.build_scheme((n, 2, 1, 1, 4), {(0, 0, 0): 1, (0, 1, 0): 1, (1, 0, 0): 0, (1, 1, 0): 0}, {1},
+                            [NO_ONE, EVERYONE, known(1), known(2)], [3, 2, 2, 12], groups)
+
+
 # ---- The cases: each (scheme, log)
 
 def sessions(rng):
@@ -78,6 +92,8 @@ def sessions(rng):
         yield ref.standard_scheme(n), session()
     yield ref.standard_scheme(4), b''
     yield ref.standard_scheme(4), session() + session()
+    for groups in ([], [1], [0, 1, 2, 3]):
+        yield ref.standard_scheme(4, groups), session()
 
 
 def edges(rng):
@@ -90,7 +106,7 @@ def edges(rng):
 def random_logs(rng):
     for i in range(50):
         n = rng.randrange(1, 6)
-        scheme = [ref.standard_scheme(n), walking_scheme(rng, n), accepted_scheme(rng, (n, *random_counts(rng)[1:]))][i % 3]
+        scheme = [standard_scheme(rng, n), walking_scheme(rng, n), accepted_scheme(rng, (n, *random_counts(rng)[1:]))][i % 3]
         asked = random_requests(rng, scheme, 10, odd=0.1) + (opening(scheme) if i % 4 else [])
         yield scheme, log_of(asked + random_requests(rng, scheme, 50, odd=0.03))
 
@@ -98,8 +114,27 @@ def random_logs(rng):
 def guided_logs(rng):
     for i in range(50):
         n = rng.choice([2, 3, 4, 5, 6, 9])
-        scheme = ref.standard_scheme(n) if i % 2 else walking_scheme(rng, n)
+        scheme = standard_scheme(rng, n) if i % 2 else walking_scheme(rng, n)
         yield scheme, log_of(guided_requests(rng, scheme, 80))
+
+
+def vouched_logs(rng):
+    """Groups decide who is known: 0 and the last member become friends of all others but of each other, and ask for each other."""
+    for n, groups in ((3, [1]), (3, []), (4, [1]), (4, [1, 2]), (4, [0, 3]), (5, [2]), (5, [1, 3]), (6, [1, 2, 4]), (6, range(6)),
+                      (7, range(1, 6)), (8, [1, 2]), (9, [1, 3, 5, 7]), (10, [0, 1, 8]), (12, [2, 11]), (17, range(2, 9)),
+                      (17, range(1, 15)), (34, range(1, 33)), (66, range(1, 64)), (66, [*range(1, 63), 64])):
+        scheme = known_scheme(n, groups)
+        last = n - 1
+        asked = [(17, m, 0, 1) for m in range(n)]
+        for m in range(1, last):
+            asked += [(16, m, 0, 0), (16, last, m, 0)]
+            if m < 12 or m > last - 4:
+                asked += [(17, 0, 3, 2), (20, last, 0, 0), (17, last, 3, 3), (20, 0, last, 0), (20, m, last, 0)]
+        yield scheme, log_of(asked + [(19, 0, 0), (16, 1, 0, 0), (16, 1, last, 0), (20, 0, last, 0)])
+    for i in range(24):
+        n = rng.randrange(3, 9)
+        scheme = known_scheme(n, rng.sample(range(n), n // 2) if i % 4 else random_groups(rng, n))
+        yield scheme, log_of(guided_requests(rng, scheme, 60))
 
 
 def ends(rng):
@@ -167,6 +202,8 @@ def refused_schemes(rng):
     logs = [session(), b'', b'\0', session()[:20], b''.join(one_of_each(rng, 4))]
     for i, (scheme, _, _) in enumerate(islice(broken_schemes(rng), 49)):
         yield scheme, logs[i % len(logs)]
+    for i, (scheme, _, _) in enumerate(islice(broken_groups(rng), 21)):
+        yield scheme, logs[i % len(logs)]
     too_long = filled(rng, ref.standard_scheme(3), 16385)
     for scheme in (b'', ref.standard_scheme(4)[:-1], ref.standard_scheme(257), ref.standard_scheme(0),
                    changed(ref.standard_scheme(4), 46, 2), search_by_everyone(ref.standard_scheme(4))):
@@ -175,17 +212,28 @@ def refused_schemes(rng):
 
 
 def long_schemes(rng):
-    """Schemes of the greatest length that is accepted, and longer ones: with bytes behind, or a head that is off."""
-    longest = accepted_scheme(rng, ref.LIMITS._replace(members=3))
-    assert len(longest) == LONGEST
-    yield longest, log_of(random_requests(rng, longest, 20))
-    for size in (LONGEST + 1, 600, 4096, 16384, 65535):
+    """Schemes of the greatest lengths that are accepted, with a sixth record and without, and longer ones: with bytes behind, or a
+    head that is off."""
+    shorter = regrouped(accepted_scheme(rng, ref.LIMITS._replace(members=3)), None)
+    longest = regrouped(accepted_scheme(rng, ref.LIMITS), rng.sample(range(256), 90))
+    assert (len(shorter), len(longest)) == (FIVE_RECORDS, LONGEST)
+    for scheme in (shorter, regrouped(shorter, [1]), longest, regrouped(longest, None)):
+        yield scheme, log_of(random_requests(rng, scheme, 20))
+        for size in (len(scheme) + 1, 600, 789, 790, 791, 1000):
+            if size > len(scheme):
+                yield scheme + bytes(size - len(scheme)), session()
+    for size in (4096, 16384, 65535):
         yield longest + bytes(size - LONGEST), session()
-    for at, value in ((0, 7), (2, 2), (6, 17), (9, 33), (9, 0), (40, 254)):
-        yield changed(longest, at, value) + b'\xff' * (600 - LONGEST), session()
+    for scheme in (longest[:-1], changed(longest, FIVE_RECORDS + 2, 7), changed(longest, LONGEST - 1, 2),
+                   longest + longest[FIVE_RECORDS:]):
+        yield scheme, session()
+    for scheme in (shorter, longest):
+        for at, value in ((0, 7), (2, 2), (6, 17), (9, 33), (9, 0), (40, 254)):
+            yield changed(scheme, at, value) + b'\xff' * 70, session()
     yield ref.standard_scheme(4) + ref.standard_scheme(4), session()
     yield ref.standard_scheme(4) * 4, b''
-    yield bytes(600), session()
+    for size in (600, 900):
+        yield bytes(size), session()
 
 
 def sizes(rng):
@@ -217,15 +265,29 @@ def friend_counts(rng):
 
 # the long ones stand last
 GROUPS = [sessions, edges, cut_logs, wrong_kinds, wrong_lengths, bytes_behind, damaged_logs, refused_schemes, long_schemes, ends,
-          random_logs, guided_logs, sizes, long_logs, friend_counts]
+          random_logs, guided_logs, vouched_logs, sizes, long_logs, friend_counts]
 
 
 def given(scheme, log):
     return part(scheme) + part(log)
 
 
+def note_groups(scheme, log, printed):
+    """Counts the accepted schemes by their sixth record, and the lines that groups change."""
+    read = ref.read_scheme(scheme)[1]
+    if read is None:
+        return
+    groups = ref.group_members(read)
+    GROUPED[SIXTH[0 if read.groups is None else 2 if groups else 1]] += 1
+    if groups:
+        without = ref.run(regrouped(scheme, None), log)
+        GROUPED[OTHERWISE[0]] += printed != without
+        GROUPED[OTHERWISE[1]] += sum(line != other for line, other in zip(printed, without))
+
+
 def lines(number, tally, scheme, log):
     printed = ref.run(scheme, log)
+    note_groups(scheme, log, printed)
     place = 0
     for line in printed:
         position, answer, *friends = map(int, line.split())
@@ -255,3 +317,4 @@ if __name__ == '__main__':
     for entry, fewest in wanted():
         if total[entry] < fewest:
             sys.exit('too few: %s' % entry)
+    stop_where_few(GROUPED, FEWEST)

@@ -13,15 +13,19 @@ The lines of a case, K being its number from 1, and J the request's:
 """
 import sys
 import zlib
+from collections import Counter
 from itertools import product
 
 sys.dont_write_bytecode = True      # no __pycache__ in the repository
 import reference as ref
 from cases import (NO_ONE, EVERYONE, OWNER, within, known, clique, state, both, either, changed, damaged, part, numbers,
-                   random_moves, accepted_scheme, random_network, off_settings, random_graph, chain, ring, star, groups,
-                   parted, near_clique, shuffled, graph_network, write)
+                   random_moves, accepted_scheme, random_network, off_settings, random_graph, chain, ring, star, cliques,
+                   parted, near_clique, shuffled, graph_network, random_groups, regrouped, stop_where_few, write)
 
-FEWEST = 40         # how often each call has to give each of its answers
+FEWEST = 40         # how often each call has to give each of its answers, and what is counted in GROUPED has to occur
+WITH_GROUPS, OTHERWISE, GRANTED_WITHOUT = '%s, with groups', '%s, another answer without', 'refused, and granted without'
+GROUPED = Counter({GRANTED_WITHOUT: 0, **{WITH_GROUPS % name: 0 for name in ('event', 'set', 'find', 'list', 'view')},
+                   **{OTHERWISE % name: 0 for name in ('event', 'find', 'list', 'view')}})
 
 
 # ---- The calls: what a request's arguments are, its answers, and what is printed of it
@@ -123,14 +127,30 @@ def walking_scheme(rng, n):
     traversal = rng.choice([everything, ref.mask_of({0, 3, 4, 5, 7, 9, 13})])
     friends = {q for q in range(1, states) if rng.randrange(2)} or {states - 1}
     return ref.build_scheme((n, states, primitives, items, count), random_moves(rng, states, primitives), friends, policies,
-                            [search, traversal] + [everything] * (primitives + items))
+                            [search, traversal] + [everything] * (primitives + items), random_groups(rng, n))
+
+
+def vouching_scheme(rng, n):
+    """A scheme in which half of the members are groups, search and view are for those who are known, and some settings for
+    traversal admit no one."""
+    states = rng.choice([2, 4, 7, 16])
+    policies = [known(1), known(2), both(0, 0), either(0, 1), EVERYONE, NO_ONE]
+    by_known = ref.mask_of(range(4))
+    friends = {q for q in range(1, states) if rng.randrange(2)} or {states - 1}
+    return ref.build_scheme((n, states, 1, 1, 6), random_moves(rng, states, 1), friends, policies,
+                            [by_known, ref.mask_of((0, 5)), by_known | 16, by_known], rng.sample(range(n), n // 2))
+
+
+def standard_scheme(rng, n):
+    """The standard scheme, with a sixth record or without."""
+    return ref.standard_scheme(n, random_groups(rng, n))
 
 
 # ---- The cases: each (scheme, network, requests)
 
 SHAPES = [lambda rng, n: random_graph(rng, n, 0.15), lambda rng, n: random_graph(rng, n, 0.3),
           lambda rng, n: random_graph(rng, n, 0.6), chain, ring, star, near_clique,
-          lambda rng, n: groups(rng, n, rng.randrange(2, 5)), lambda rng, n: parted(rng, n, rng.randrange(2, 5))]
+          lambda rng, n: cliques(rng, n, rng.randrange(2, 5)), lambda rng, n: parted(rng, n, rng.randrange(2, 5))]
 
 
 def shaped_network(rng, scheme, shape):
@@ -140,7 +160,7 @@ def shaped_network(rng, scheme, shape):
 
 def standard_networks(rng):
     for i in range(72):
-        scheme = ref.standard_scheme(rng.randrange(1, 13))
+        scheme = standard_scheme(rng, rng.randrange(1, 13))
         network = random_network(rng, scheme) if i % 4 == 0 else shaped_network(rng, scheme, SHAPES[i % len(SHAPES)])
         yield scheme, network, random_requests(rng, scheme, 30)
 
@@ -149,6 +169,23 @@ def walks(rng):
     for i in range(150):
         scheme = walking_scheme(rng, rng.randrange(3, 13))
         yield scheme, shaped_network(rng, scheme, SHAPES[i % len(SHAPES)]), random_requests(rng, scheme, 36, odd=0.03)
+
+
+def joined_by_groups(scheme, network):
+    """The pairs of members who are no friends, and share groups alone."""
+    net = ref.Network(ref.read_scheme(scheme)[1], network)
+    return [(v, u) for v, u in product(range(net.counts.members), repeat=2) if v != u and v not in net.graph[u]
+            and ref.friends_of_both(net.graph, v, u) and not ref.shared_friends(net.graph, net.groups, v, u)]
+
+
+def vouched(rng):
+    """Networks in which groups decide who is known, and so who is found."""
+    for i in range(56):
+        n = rng.randrange(4, 11)
+        scheme = vouching_scheme(rng, n)
+        network = graph_network(rng, scheme, random_graph(rng, n, (0.2, 0.3, 0.4)[i % 3]))
+        near = [(kind, v, u, n if kind == 19 else 0) for v, u in joined_by_groups(scheme, network) for kind in (16, 18, 19, 20)]
+        yield scheme, network, rng.sample(near, min(15, len(near))) + random_requests(rng, scheme, 15, odd=0.02)
 
 
 def random_networks(rng):
@@ -170,7 +207,7 @@ def outputs(rng):
     """All lists of small networks, with outputs of n - 1, n and n + 1 places."""
     for i in range(24):
         n = rng.randrange(1, 7)
-        scheme = walking_scheme(rng, n) if i % 3 else ref.standard_scheme(n)
+        scheme = walking_scheme(rng, n) if i % 3 else standard_scheme(rng, n)
         asked = [(19, v, u, places) for v in range(n + 1) for u in range(n) for places in (n - 1, n, n + 1)]
         yield scheme, shaped_network(rng, scheme, SHAPES[i % len(SHAPES)]), asked
 
@@ -194,23 +231,37 @@ def damaged_networks(rng):
 
 def search_by_everyone(scheme):
     read = ref.read_scheme(scheme)[1]
-    at = len(scheme) - 4 * len(read.masks)
+    at = ref.five_records(read.counts) - 4 * len(read.masks)
     return scheme[:at] + (1 << read.policies.index(EVERYONE)).to_bytes(4, 'little') + scheme[at + 4:]
 
 
 def broken_schemes(rng):
     """Schemes that are cut, or have a count out of range, one byte changed, a mark of 2, a mask beyond P, state 0 marked, or
-    search open to strangers."""
+    search open to strangers. Some have a sixth record."""
     for i in range(294):
-        scheme = ref.standard_scheme(rng.randrange(1, 6)) if i % 2 else walking_scheme(rng, rng.randrange(1, 6))
+        scheme = standard_scheme(rng, rng.randrange(1, 6)) if i % 2 else walking_scheme(rng, rng.randrange(1, 6))
         network = random_network(rng, scheme)
         at = rng.randrange(4, 10)
-        marks = 18 + ref.body_lengths(ref.read_scheme(scheme)[1].counts)[0]
-        broken = [scheme[:rng.randrange(len(scheme))],
+        counts = ref.read_scheme(scheme)[1].counts
+        marks, end = 18 + ref.body_lengths(counts)[0], ref.five_records(counts)
+        broken = [scheme[:rng.choice([rng.randrange(end), rng.randrange(len(scheme))])],
                   changed(scheme, at, 2 if at == 5 else rng.choice([0, 33, 255]) if at > 5 else 0),
-                  damaged(rng, scheme), changed(scheme, marks, 2), changed(scheme, len(scheme) - 1, 255),
+                  damaged(rng, scheme), changed(scheme, marks, 2), changed(scheme, end - 1, 255),
                   changed(scheme, marks, 1), search_by_everyone(scheme)][i % 7]
         yield broken, network, random_requests(rng, scheme, 6, odd=0.2)
+
+
+def broken_groups(rng):
+    """Schemes with a sixth record that is cut, of kind 7, a byte longer or shorter, followed by more, or has a byte of 2 or 255."""
+    for i in range(56):
+        n = rng.randrange(1, 6)
+        scheme = ref.standard_scheme(n) if i % 2 else regrouped(walking_scheme(rng, n), None)
+        network = random_network(rng, scheme)
+        sixth = ref.groups_record(n, [rng.randrange(n)])
+        off = changed(sixth, 4 + rng.randrange(n), rng.choice([2, 255]))
+        more = [sixth[:-1], changed(sixth, 2, 7), ref.record(6, sixth[4:] + b'\0'), off, ref.record(6, sixth[5:]),
+                sixth + rng.choice([b'\0', sixth]), off][i % 7]
+        yield scheme + more, network, random_requests(rng, regrouped(scheme, []), 6, odd=0.2)
 
 
 def large_networks(rng):
@@ -223,13 +274,13 @@ def large_networks(rng):
 
     for n in (64, 65):
         for i, shape in enumerate((lambda rng, n: random_graph(rng, n, 0.05), lambda rng, n: random_graph(rng, n, 0.4),
-                                   chain, ring, near_clique, lambda rng, n: groups(rng, n, 4))):
-            scheme = walking_scheme(rng, n) if i % 2 else ref.standard_scheme(n)
+                                   chain, ring, near_clique, lambda rng, n: cliques(rng, n, 4))):
+            scheme = walking_scheme(rng, n) if i % 2 else standard_scheme(rng, n)
             yield scheme, shaped_network(rng, scheme, shape), requests(scheme, n, 24, 4)
     n = 256
     for i, shape in enumerate((lambda rng, n: random_graph(rng, n, 0.01), lambda rng, n: random_graph(rng, n, 0.02),
-                               chain, lambda rng, n: groups(rng, n, 5), lambda rng, n: random_graph(rng, n, 0.2))):
-        scheme = walking_scheme(rng, n) if i % 2 else ref.standard_scheme(n)
+                               chain, lambda rng, n: cliques(rng, n, 5), lambda rng, n: random_graph(rng, n, 0.2))):
+        scheme = walking_scheme(rng, n) if i % 2 else standard_scheme(rng, n)
         yield scheme, shaped_network(rng, scheme, shape), requests(scheme, n, 16, 3)
     scheme = ref.standard_scheme(n)
     network = shaped_network(rng, scheme, star)
@@ -266,18 +317,29 @@ def lists_from_fresh(rng):
 
 # ---- What is written
 
-GROUPS = [lists_from_fresh, standard_networks, walks, random_networks, ends, outputs, damaged_networks, broken_schemes,
-          large_networks]
+GROUPS = [lists_from_fresh, standard_networks, walks, vouched, random_networks, ends, outputs, damaged_networks, broken_schemes,
+          broken_groups, large_networks]
 
 
 def given(scheme, network, requests):
     return part(scheme) + part(network) + numbers(len(requests), *(value for request in requests for value in request))
 
 
+def grouped_tried(name, run, scheme, network, arguments):
+    """Whether the request is made with groups, and whether its answer is another without them."""
+    read = ref.read_scheme(scheme)[1]
+    if read is None or not ref.group_members(read):
+        return {}
+    with_groups, without = (run(given, bytearray(network), *arguments) for given in (scheme, regrouped(scheme, None)))
+    tried = {WITH_GROUPS % name: True, GRANTED_WITHOUT: with_groups[0] != 0 == without[0]}
+    return tried if name == 'set' else {**tried, OTHERWISE % name: with_groups != without}
+
+
 def lines(number, tally, scheme, network, requests):
     network = bytearray(network)
     for place, (kind, *arguments) in enumerate(requests, 1):
         name, _, _, run = CALLS[kind]
+        GROUPED.update(grouped_tried(name, run, scheme, network, arguments))
         printed = run(scheme, network, *arguments)
         tally['%s %2d' % (name, printed[0])] += 1
         yield ' '.join(map(str, [number, place] + printed))
@@ -290,3 +352,4 @@ if __name__ == '__main__':
         for answer in sorted(COMMON | own):
             if total['%s %2d' % (name, answer)] < FEWEST:
                 sys.exit('too few: %s %d' % (name, answer))
+    stop_where_few(GROUPED, FEWEST)

@@ -15,7 +15,8 @@ from itertools import islice, product
 sys.dont_write_bytecode = True      # no __pycache__ in the repository
 import make_request_cases as requests
 import reference as ref
-from cases import part, numbers, pairs_of, random_graph, ring, star, groups, parted, near_clique, shuffled, write
+from cases import (part, numbers, pairs_of, random_graph, ring, star, cliques, parted, near_clique, shuffled, random_groups,
+                   regrouped, shared_otherwise, stop_where_few, write)
 from make_degree_cases import SEARCH_BY_EVERYONE, TRAVERSAL_BY_EVERYONE, all_found, standard
 from make_request_cases import SHAPES, shaped_network, walking_scheme
 
@@ -25,7 +26,7 @@ FEWEST = 40             # how often each answer, and what is counted in SEEN, ha
 SELDOM = {'n = 1': 20, 'n = 256': 20, 'c = places above 256': 12, '254 shared friends': 2, '254 written': 2,
           'numbers below and above 128': 2}
 SEEN = Counter()
-WRITTEN, ALONE = set(), set()       # who is suggested, and who is all that v and a suggested member share
+WRITTEN, ALONE = set(), set()       # who is suggested, and who is the only person that v and a suggested member share
 
 
 # ---- Questions: each (v, c, places)
@@ -86,10 +87,20 @@ def each_sort_of_member(rng):
     yield scheme, network, every_page(rng, scheme, network, range(10))
 
 
+def groups_and_persons(rng):
+    """0 has the friends 1 to 4. 5 shares one of them with it, 6 two, 7 three and 8 all. Each has some groups, or all do."""
+    friends = [(0, m) for m in range(1, 5)] + [(m, 4 + last) for last in range(1, 5) for m in range(1, last + 1)]
+    scheme, network = standard(9, friends, [(m, ref.SEARCH, SEARCH_BY_EVERYONE) for m in range(9)])
+    for groups in ([1], [1, 2], [2, 3, 4], [1, 2, 3, 4], [0], [5], [0, 8], [0, 6, 1], [7, 8, 3], range(9), []):
+        given = regrouped(scheme, groups)
+        yield given, network, every_page(rng, given, network, (0, 5, 8)) + [(0, 9, 9), (4, 9, 9)]
+
+
 def all_pages(rng):
     for i in range(54):
         n = rng.randrange(3, 10)
-        scheme, network = all_found(rng, n, shuffled(rng, n, SHAPES[i % len(SHAPES)](rng, n)))
+        graph = shuffled(rng, n, SHAPES[i % len(SHAPES)](rng, n))
+        scheme, network = all_found(rng, n, graph, random_groups(rng, n))
         yield scheme, network, every_page(rng, scheme, network, range(n))
 
 
@@ -97,7 +108,7 @@ def orders(rng):
     """Networks with many different numbers of shared friends."""
     for i in range(36):
         n = rng.randrange(9, 15)
-        scheme, network = all_found(rng, n, random_graph(rng, n, rng.choice([0.35, 0.45, 0.55])))
+        scheme, network = all_found(rng, n, random_graph(rng, n, rng.choice([0.35, 0.45, 0.55])), random_groups(rng, n))
         yield scheme, network, some_pages(rng, scheme, network, rng.sample(range(n), 4))
 
 
@@ -144,11 +155,17 @@ def broken_schemes(rng):
         yield scheme, network, random_questions(rng, 5, 2) + [(0, 1, 0), (LARGEST, LARGEST, 1)]
 
 
+def broken_groups(rng):
+    """Of the requests' schemes with a wrong sixth record every third."""
+    for scheme, network, _ in islice(requests.broken_groups(rng), 0, None, 3):
+        yield scheme, network, random_questions(rng, 5, 1) + [(0, 1, 0), (LARGEST, LARGEST, 1)]
+
+
 def large_networks(rng):
     """64 and 65 members: a friend row of one word, and of a word and a bit."""
     for n in (64, 65):
-        for graph in (random_graph(rng, n, 0.05), random_graph(rng, n, 0.3), near_clique(rng, n), groups(rng, n, 4)):
-            scheme, network = all_found(rng, n, shuffled(rng, n, graph))
+        for graph in (random_graph(rng, n, 0.05), random_graph(rng, n, 0.3), near_clique(rng, n), cliques(rng, n, 4)):
+            scheme, network = all_found(rng, n, shuffled(rng, n, graph), random_groups(rng, n))
             yield scheme, network, some_pages(rng, scheme, network, [0, n - 1]) + [(n, 1, 1), (n - 1, n, n - 1)]
         scheme = walking_scheme(rng, n)
         network = shaped_network(rng, scheme, lambda rng, n: random_graph(rng, n, 0.1))
@@ -163,12 +180,15 @@ def two_halves(n):
 
 def most_members(rng):
     """256 members: two who share all 254 others; one to whom 254 are suggested; few friendships, and many; every member
-    suggested, and every member the only one that two share."""
+    suggested, and every member the only person that two share; groups, at the ends of words among them."""
     n = 256
     for graph in (pairs_of(range(n)) - {(0, 255)}, star(rng, n), random_graph(rng, n, 0.03), random_graph(rng, n, 0.71)):
         scheme, network = all_found(rng, n, graph)
         yield scheme, network, some_pages(rng, scheme, network, [255]) + [(0, 1, 1), (0, n, n), (n, 0, 0), (0, n, n - 1)]
     yield (*all_found(rng, n, two_halves(n)), [(v, 127, 127) for v in (0, 1, 2, 255)])
+    groups = {0, 63, 64, 127, 128, 191, 192, 255, *rng.sample(range(n), 50)}
+    scheme, network = all_found(rng, n, random_graph(rng, n, 0.3), groups)
+    yield scheme, network, some_pages(rng, scheme, network, [1, 255])
     scheme = walking_scheme(rng, n)
     network = shaped_network(rng, scheme, lambda rng, n: random_graph(rng, n, 0.02))
     yield scheme, network, some_pages(rng, scheme, network, [0, 255])
@@ -177,7 +197,7 @@ def most_members(rng):
 # ---- What a question tries: each name, and whether it is so
 
 SORTS = ('v', 'a friend', 'found by search', 'found by a chain', 'not found')
-SHARING = ('shares a friend', 'shares none')
+SHARING = ('shares a person', 'shares groups alone', 'shares none')
 
 
 def sort_of_member(net, v, m, found):
@@ -190,9 +210,12 @@ def sort_of_member(net, v, m, found):
     return 'found by search' if net.admits(m, ref.SEARCH, v) else 'found by a chain'
 
 
-def members_tried(net, v):
-    found = ref.found_by(net, v)
-    there = {(sort_of_member(net, v, m, found), SHARING[ref.shared_count(net, v, m) == 0]) for m in range(net.counts.members)}
+def sharing(net, v, m):
+    return SHARING[0 if ref.shared_count(net, v, m) else 1 if ref.friends_of_both(net.graph, v, m) else 2]
+
+
+def members_tried(net, v, found):
+    there = {(sort_of_member(net, v, m, found), sharing(net, v, m)) for m in range(net.counts.members)}
     return {'%s, %s' % kind: kind in there for kind in product(SORTS, SHARING)}
 
 
@@ -212,11 +235,32 @@ def page_tried(net, v, c):
             'numbers below and above 128': written != [] and told[0] > 128 > told[-1]}
 
 
+def page_otherwise(net, v, c, found, name):
+    """What is written by a wrong count."""
+    shared = {m: shared_otherwise(net, v, m)[name] for m in found - net.graph[v] - {v}}
+    return sorted((m for m in shared if shared[m] > 0), key=lambda m: (-shared[m], m))[:c]
+
+
+def groups_tried(net, v, c, found):
+    """What groups have to do with what is written."""
+    written = ref.suggestions(net, v)[:c]
+    pages = {name: page_otherwise(net, v, c, found, name) for name in shared_otherwise(net, v, v)}
+    counted = page_otherwise(net, v, net.counts.members, found, 'groups counted')
+    return {'five records alone': net.scheme.groups is None,
+            'a sixth record of persons': net.scheme.groups is not None and not net.groups,
+            'a group written': not net.groups.isdisjoint(written), 'v a group': v in net.groups,
+            'v a group, and some written': v in net.groups and written != [],
+            'a member left out by groups': not set(counted) <= set(ref.suggestions(net, v)),
+            'another order by groups': written != [m for m in counted if m in written],
+            **{'otherwise: ' + name: page != written for name, page in pages.items()}}
+
+
 def grant_tried(net, v, c, places):
     n = net.counts.members
+    found = ref.found_by(net, v)
     return {'fewer places than members': places < n, 'c = places': c == places > 0, 'more places than c': c < places,
             'c above n': c > n, 'c = places above 256': 256 < c == places, 'n = 1': n == 1, 'n = 256': n == 256,
-            **members_tried(net, v), **page_tried(net, v, c)}
+            **members_tried(net, v, found), **page_tried(net, v, c), **groups_tried(net, v, c, found)}
 
 
 def in_low_bytes(number, width, limit):
@@ -242,8 +286,8 @@ def refusal_tried(answer, scheme, network, v, c, places):
 
 # ---- What is written
 
-GROUPS = [smallest, each_sort_of_member, all_pages, orders, found_or_not, outputs, long_outputs, far_numbers,
-          damaged_networks, broken_schemes, large_networks, most_members]
+GROUPS = [smallest, each_sort_of_member, groups_and_persons, all_pages, orders, found_or_not, outputs, long_outputs, far_numbers,
+          damaged_networks, broken_schemes, broken_groups, large_networks, most_members]
 
 
 def given(scheme, network, questions):
@@ -253,7 +297,7 @@ def given(scheme, network, questions):
 
 def note_members(net, v, members):
     WRITTEN.update(members)
-    for shared in (ref.shared_friends(net.graph, v, m) for m in members):
+    for shared in (ref.shared_friends(net.graph, net.groups, v, m) for m in members):
         ALONE.update(shared if len(shared) == 1 else ())
 
 
@@ -270,13 +314,10 @@ def lines(number, tally, scheme, network, questions):
 
 def report():
     """Prints how often each is so; stops where one is too seldom."""
-    for name, count in sorted(SEEN.items()):
-        print('%-36s %5d' % (name, count))
-    print('%d members suggested, %d the only ones that two share' % (len(WRITTEN), len(ALONE)))
-    few = [name for name, count in SEEN.items() if count < SELDOM.get(name, FEWEST)]
-    few += ['members'] if min(len(WRITTEN), len(ALONE)) < 256 else []
-    if few:
-        sys.exit('too few: ' + ', '.join(few))
+    print('%d members suggested, %d the only persons that two share' % (len(WRITTEN), len(ALONE)))
+    if min(len(WRITTEN), len(ALONE)) < 256:
+        sys.exit('too few members')
+    stop_where_few(SEEN, FEWEST, SELDOM)
 
 
 if __name__ == '__main__':

@@ -1,8 +1,8 @@
 #!/usr/bin/env python3
-"""The gatekeeper of document 01 and the calls degree and suggest of document 02, written from their text alone, to compare the
-proved program with.
+"""The gatekeeper of document 01 with document 02's calls degree and suggest and its groups, written from their text alone, to
+compare the proved program with.
 
-With no arguments: a self check on document 01's session and edges, and on a few degrees and suggestions.
+With no arguments: a self check on document 01's session and edges, and on a few degrees, suggestions and groups.
 With two file names: the log program, on that scheme and those requests.
 """
 import sys
@@ -11,7 +11,7 @@ from itertools import combinations
 
 Counts = namedtuple('Counts', 'members states primitives items policies')
 Policy = namedtuple('Policy', 'kind k left right')
-Scheme = namedtuple('Scheme', 'counts moves marks policies masks')
+Scheme = namedtuple('Scheme', 'counts moves marks policies masks groups')       # groups: the body of kind 6, or None without it
 
 LIMITS = Counts(256, 16, 8, 16, 32)
 UNDEFINED = 255
@@ -41,6 +41,11 @@ def resources(counts):
 def body_lengths(counts):
     """The lengths of the bodies of kinds 2 to 5."""
     return [counts.states * 2 * counts.primitives, counts.states, counts.policies * 4, resources(counts) * 4]
+
+
+def five_records(counts):
+    """The length of the first five records."""
+    return 10 + sum(4 + length for length in body_lengths(counts))
 
 
 def in_range(counts):
@@ -79,21 +84,27 @@ def lowest(mask):
 
 
 def bytes_fit(scheme):
-    """What answer 3 asks of kinds 2 to 5."""
+    """What answer 3 asks of kinds 2 to 6."""
     counts = scheme.counts
     return (all(move_fits(counts, state) for state in scheme.moves)
             and all(mark in (0, 1) for mark in scheme.marks)
             and all(policy_fits(counts, p, policy) for p, policy in enumerate(scheme.policies))
-            and all(mask_fits(counts, mask) for mask in scheme.masks))
+            and all(mask_fits(counts, mask) for mask in scheme.masks)
+            and all(group in (0, 1) for group in scheme.groups or ()))
+
+
+def group_members(scheme):
+    """The members that are groups: without a sixth record there are none."""
+    return {m for m, group in enumerate(scheme.groups or ()) if group == 1}
 
 
 def strangers_apart(scheme):
-    """What answer 4 asks: two members without friendships, in state 0, on either side."""
+    """What answer 4 asks: two members without friendships, in state 0, on either side. Whether they are groups is nothing to it."""
     if scheme.marks[0] == 1:
         return False
     alone = [set(), set()]
     search = lowest(scheme.masks[SEARCH])
-    return not any(admits(scheme.policies, search, u, v, alone, 0) for u, v in ((0, 1), (1, 0)))
+    return not any(admits(scheme.policies, search, u, v, alone, set(), 0) for u, v in ((0, 1), (1, 0)))
 
 
 def read_scheme(data):
@@ -112,12 +123,15 @@ def read_scheme(data):
             return 1, None
         bodies.append(body)
         at += 4 + length
+    groups = None
     if at != len(data):
-        return 1, None
+        groups = record_body(data, at, 6, counts.members)
+        if groups is None or at + 4 + counts.members != len(data):
+            return 1, None
     moves, marks, policies, masks = bodies
     scheme = Scheme(counts, moves, marks,
                     [Policy(*policies[i:i + 4]) for i in range(0, len(policies), 4)],
-                    [int.from_bytes(masks[i:i + 4], 'little') for i in range(0, len(masks), 4)])
+                    [int.from_bytes(masks[i:i + 4], 'little') for i in range(0, len(masks), 4)], groups)
     if not bytes_fit(scheme):
         return 3, None
     if not strangers_apart(scheme):
@@ -129,7 +143,7 @@ def check(data):
     return read_scheme(data)[0]
 
 
-# ---- Graph: for each member the set of its friends
+# ---- Graph: for each member the set of its friends; groups: the members that are groups
 
 def distance(graph, u, v):
     """The length of the shortest walk from u to v, or None."""
@@ -146,8 +160,13 @@ def distance(graph, u, v):
     return None
 
 
-def shared_friends(graph, u, v):
+def friends_of_both(graph, u, v):
     return graph[u] & graph[v]
+
+
+def shared_friends(graph, groups, u, v):
+    """The friends of both that are persons."""
+    return friends_of_both(graph, u, v) - groups
 
 
 def all_friends(graph, members):
@@ -155,15 +174,15 @@ def all_friends(graph, members):
 
 
 def in_clique(graph, u, v, k):
-    """Whether k members, u and v (not the same) among them, are all friends of each other."""
+    """Whether k members, u and v (not the same) among them, are all friends of each other. Groups are members too."""
     return v in graph[u] and any(all_friends(graph, others)
-                                 for others in combinations(sorted(shared_friends(graph, u, v)), k - 2))
+                                 for others in combinations(sorted(friends_of_both(graph, u, v)), k - 2))
 
 
 # ---- Policies
 
-def admits(policies, p, u, v, graph, state):
-    """Whether policy p of owner u admits accessor v, in a graph, their pair being in a state."""
+def admits(policies, p, u, v, graph, groups, state):
+    """Whether policy p of owner u admits accessor v, in a graph with groups, their pair being in a state."""
     judged = {}
 
     def holds(p):
@@ -183,7 +202,7 @@ def admits(policies, p, u, v, graph, state):
             steps = distance(graph, u, v)
             return steps is not None and steps <= k
         if kind == 4:
-            return u == v or v in graph[u] or len(shared_friends(graph, u, v)) >= k
+            return u == v or v in graph[u] or len(shared_friends(graph, groups, u, v)) >= k
         if kind == 5:
             return u == v or in_clique(graph, u, v, k)
         if kind == 6:
@@ -240,6 +259,7 @@ class Network:
         self.scheme = scheme
         self.counts = scheme.counts
         self.data = data
+        self.groups = group_members(scheme)
         self.graph = [set() for _ in range(self.counts.members)]
         for j in range(self.counts.members):
             for i in range(j):
@@ -255,7 +275,7 @@ class Network:
 
     def admits(self, u, r, v):
         """Whether u's setting for resource r admits v."""
-        return admits(self.scheme.policies, self.setting(u, r), u, v, self.graph, self.state(u, v))
+        return admits(self.scheme.policies, self.setting(u, r), u, v, self.graph, self.groups, self.state(u, v))
 
 
 # ---- Finding
@@ -280,12 +300,12 @@ def finds(net, v, u):
 # ---- Suggestions
 
 def shared_count(net, v, m):
-    return len(shared_friends(net.graph, v, m))
+    return len(shared_friends(net.graph, net.groups, v, m))
 
 
 def suggestions(net, v):
-    """The members that v finds, who are neither v nor its friends and share at least one friend with v: most shared friends
-    first, among equals the lower number."""
+    """The members that v finds, who are neither v nor its friends and share at least one friend with v that is a person: most of
+    those first, among equals the lower number. A suggested member may be a group, and so may v."""
     members = [m for m in found_by(net, v) - net.graph[v] - {v} if shared_count(net, v, m) >= 1]
     return sorted(members, key=lambda m: (-shared_count(net, v, m), m))
 
@@ -488,16 +508,22 @@ def head_body(counts):
     return counts[0].to_bytes(2, 'little') + bytes(counts[1:])
 
 
-def build_scheme(counts, moves, friends, policies, masks):
+def groups_record(members, groups):
+    """A sixth record, which says which of so many members are groups."""
+    return record(6, [int(m in groups) for m in range(members)])
+
+
+def build_scheme(counts, moves, friends, policies, masks, groups=None):
     """A scheme's bytes: counts (n, S, A, I, P), moves {(q, b, a): next}, the states that make friends,
-    policies as (kind, k, left, right), and a mask for each resource."""
+    policies as (kind, k, left, right), a mask for each resource, and the members that are groups; None: no sixth record."""
     counts = Counts(*counts)
     table = [moves.get((q, b, a), UNDEFINED)
              for q in range(counts.states) for b in (0, 1) for a in range(counts.primitives)]
     return (record(1, head_body(counts)) + record(2, table)
             + record(3, [int(q in friends) for q in range(counts.states)])
             + record(4, [field for policy in policies for field in policy])
-            + record(5, b''.join(mask.to_bytes(4, 'little') for mask in masks)))
+            + record(5, b''.join(mask.to_bytes(4, 'little') for mask in masks))
+            + (b'' if groups is None else groups_record(counts.members, groups)))
 
 
 def mask_of(policies):
@@ -511,10 +537,10 @@ STANDARD_POLICIES = ([(0, 0, 0, 0), (2, 0, 0, 0), (3, 1, 0, 0), (3, 2, 0, 0), (1
                      + [(8, 0, p, 7) for p in range(5)])
 
 
-def standard_scheme(n):
+def standard_scheme(n, groups=None):
     low, high = mask_of(range(5)), mask_of(range(8, 13))
     masks = [high, low, mask_of((0, 3, 4))] + 3 * [mask_of((4,))] + [high, low, low]
-    return build_scheme((n, 4, 4, 3, 13), STANDARD_MOVES, {3}, STANDARD_POLICIES, masks)
+    return build_scheme((n, 4, 4, 3, 13), STANDARD_MOVES, {3}, STANDARD_POLICIES, masks, groups)
 
 
 def build_log(requests):
@@ -563,6 +589,58 @@ def check_suggestions(expect):
     expect('suggest, no scheme', suggest(b'', network, 0, 1, []), (1, 0))
 
 
+def check_sixth_record(expect):
+    scheme, good = standard_scheme(4), record(6, [0, 1, 0, 1])
+    off, marked = record(6, [0, 1, 0, 2]), scheme[:50] + b'\1' + scheme[51:]     # a byte that gives 3, and state 0 marked
+    cut = [good[:size] for size in range(1, 8)]
+    wrong = [record(7, [0, 1, 0, 1]), record(6, [0, 1, 0]), record(6, [0, 1, 0, 1, 0]), record(6, b''), good + b'\0', good + good,
+             off[:-1], off + b'\0']
+    for what, sixth, answer in (('good', [good], 0), ('cut', cut, 1), ('wrong', wrong, 1), ('a byte of 2', [off], 3)):
+        expect('sixth record, ' + what, {check(scheme + more) for more in sixth}, {answer})
+    expect('cut, and 3 before', check(scheme[:14] + b'\4' + scheme[15:] + good[:-1]), 1)
+    expect('a byte of 2, and 4', (check(marked + good), check(marked + off)), (4, 3))
+    expect('groups', [group_members(read_scheme(standard_scheme(3, groups))[1]) for groups in (None, [], [0, 2])],
+           [set(), set(), {0, 2}])
+    expect('n 256, groups', (check(standard_scheme(256, [255])), check(standard_scheme(257, [255]))), (0, 2))
+    expect('longest scheme', five_records(LIMITS) + len(groups_record(LIMITS.members, [])), 790)
+
+
+def check_groups(expect):
+    """0 and 5 share 1, 2 and 3, who are friends of each other, and 4 has the friends 3 and 5. Everyone may search for all."""
+    friends = ((0, 1), (0, 2), (0, 3), (1, 5), (2, 5), (3, 5), (3, 4), (4, 5), (1, 2), (1, 3), (2, 3))
+    known, within, clique = (4, 2, 0, 0), (3, 2, 0, 0), (5, 3, 0, 0)
+    policies = [(0, 0, 0, 0), (1, 0, 0, 0), known, (4, 1, 0, 0), (4, 3, 0, 0), within, clique, (5, 4, 0, 0)]
+
+    def case(groups):
+        scheme = build_scheme((6, 2, 1, 1, 8), {}, {1}, policies, [3, 2, 2, 255], groups)
+        network = bytearray(fresh_bytes(read_scheme(scheme)[1]))
+        for i, j in friends:
+            network[pair_place(i, j)] = 1
+        for m in range(6):
+            network[setting_place(Counts(6, 2, 1, 1, 8), m, SEARCH)] = 1
+        return scheme, network
+
+    def views(groups, v, u):
+        """Which of the policies 2 to 7 show u's item to v."""
+        scheme, network = case(groups)
+        return [p for p in range(2, 8) if set_policy(scheme, network, u, 3, p) == 0 and view(scheme, network, v, u, 0) == 0]
+
+    def pages(groups, v):
+        output = [9] * 6
+        answer, count = suggest(*case(groups), v, 6, output)
+        return answer, output[:count]
+
+    for groups, seen in ((None, [2, 3, 4, 5]), ([], [2, 3, 4, 5]), ([2, 3], [3, 5]), ([1, 2, 3], [5]), ([0, 5], [2, 3, 4, 5])):
+        expect('0 and 5, groups %s' % groups, (views(groups, 0, 5), views(groups, 5, 0)), (seen, seen))
+    expect('0 and 4, group 3', (views([], 0, 4), views([3], 0, 4)), ([3, 5], [5]))
+    expect('3 and 5, friends', views([1, 2, 3, 4], 3, 5), [2, 3, 4, 5, 6, 7])
+    expect('suggest 0', [pages(groups, 0) for groups in (None, [3], [1, 2, 3], [0, 5], [3, 5])],
+           [(0, [5, 4]), (0, [5]), (0, []), (0, [5, 4]), (0, [5])])
+    expect('suggest 1, group 3', (pages(None, 1), pages([3], 1)), ((0, [4]), (0, [4])))
+    expect('suggest 2, groups 3 5', (pages(None, 2), pages([3, 5], 2)), ((0, [4]), (0, [])))
+    expect('degree 0 4, by 3', [degree(*case(groups), 0, 4) for groups in (None, [3])], [(0, 2), (0, 2)])
+
+
 def self_check():
     failures = 0
 
@@ -597,6 +675,8 @@ def self_check():
     expect('degree 0 3, by 2', degree(scheme, network, 0, 3), (0, 2))
     expect('degree 0 2, friends', degree(scheme, network, 0, 2), (0, 1))
     check_suggestions(expect)
+    check_sixth_record(expect)
+    check_groups(expect)
     expect('longest network', network_length(LIMITS), 39296)
     print('%d differ' % failures)
     return failures == 0

@@ -1,4 +1,4 @@
-"""The scheme check of document 01 with reasons: which byte of a file is in the way, and why."""
+"""The scheme check of document 01, with the groups of document 02, and its reasons: which byte of a file is in the way, and why."""
 from collections import namedtuple
 
 import reference as ref
@@ -9,12 +9,12 @@ Examined = namedtuple('Examined', 'answer faults scheme')
 
 SENTENCES = {
     0: 'the scheme is accepted',
-    1: 'a record is cut, of another kind or of another length, or bytes follow the fifth',
+    1: 'a record is cut, of another kind or of another length, or bytes follow the last',
     2: 'a head count is outside its range',
-    3: 'a byte inside kinds 2 to 5 breaks what document 01 says of it',
+    3: 'a byte inside kinds 2 to 6 breaks what documents 01 and 02 say of it',
     4: 'state 0 makes friends, or the lowest search policy admits strangers',
 }
-RECORDS = {1: 'head', 2: 'moves', 3: 'friends', 4: 'policies', 5: 'masks'}
+RECORDS = {1: 'head', 2: 'moves', 3: 'friends', 4: 'policies', 5: 'masks', 6: 'groups'}
 SIDES = ('lesser', 'greater')
 
 
@@ -35,7 +35,13 @@ def examine(data, names=None):
         places.append(at + 4)
         at += 4 + length
     if at < len(data):
-        return Examined(1, [(at, 'bytes follow the fifth record')], None)
+        fault = record_fault(data, at, 6, counts.members)
+        if fault:
+            return Examined(1, [fault], None)
+        places.append(at + 4)
+        at += 4 + counts.members
+    if at < len(data):
+        return Examined(1, [(at, 'bytes follow the sixth record')], None)
     scheme = decoded(data, counts, places)
     faults = [(places[record] + at, what) for record, at, what in byte_faults(scheme)]
     if faults:
@@ -48,7 +54,8 @@ def decoded(data, counts, places):
     moves, marks, policies, masks = [data[at:at + length] for at, length in zip(places, ref.body_lengths(counts))]
     return ref.Scheme(counts, moves, marks,
                       [ref.Policy(*policies[i:i + 4]) for i in range(0, len(policies), 4)],
-                      [int.from_bytes(masks[i:i + 4], 'little') for i in range(0, len(masks), 4)])
+                      [int.from_bytes(masks[i:i + 4], 'little') for i in range(0, len(masks), 4)],
+                      data[places[4]:] if len(places) == 5 else None)
 
 
 def record_fault(data, at, kind, length):
@@ -72,7 +79,7 @@ def count_faults(counts):
             yield at, 'record 1 (head): %s are 1 to %d, and not %d' % (name, most, count)
 
 
-# ---- Bytes inside kinds 2 to 5: each fault is (number of the record from kind 2, place in its body, sentence)
+# ---- Bytes inside kinds 2 to 6: each fault is (number of the record from kind 2, place in its body, sentence)
 
 def byte_faults(scheme):
     counts = scheme.counts
@@ -94,6 +101,9 @@ def byte_faults(scheme):
         for p in beyond[:1]:
             yield 3, 4 * r + p // 8, ('record 5 (masks): resource %d offers policy %d, and there are %d'
                                       % (r, p, counts.policies))
+    for m, group in enumerate(scheme.groups or ()):
+        if group > 1:
+            yield 4, m, 'record 6 (groups): the byte of member %d is 0 or 1, and not %d' % (m, group)
 
 
 def policy_faults(counts, own, policy):

@@ -1,7 +1,8 @@
-"""A scheme as text, with names, and as document 01's bytes.
+"""A scheme as text, with names, and as the bytes of documents 01 and 02.
 
 Each line is `KEY: VALUE`; `#` begins a comment.
     members: 4
+    groups: 2 3                                 the members that are groups; may be empty
     states: stranger asked friend               the first is the start
     friends: friend                             the states that make a pair friends; may be empty
     primitives: ask accept
@@ -13,6 +14,8 @@ Each line is `KEY: VALUE`; `#` begins a comment.
     traversal: P ..
     primitive NAME: P ..
     item NAME: P ..
+Without a line `groups: ..` the bytes have no sixth record, and with an empty one a sixth record in which all are persons. The check
+and every call answer both alike.
 Policies are numbered in the order of their lines, and P and Q stand before the policy that names them. What a resource has at
 first, its default, is the policy of its list whose line `policy NAME: ..` stands first, in whatever order the list has them. A
 name begins with a letter, goes on with letters, digits, - and _, and stands in a list once. Texts are UTF-8; a byte order mark
@@ -27,6 +30,7 @@ from text_lines import Fault, Lines, NAME, number, place_of, shown
 Names = namedtuple('Names', 'states primitives items policies')     # lists; while a text is read, the places by name
 
 SINGLE = ('members', 'states', 'friends', 'primitives', 'items')
+OPTIONAL = ('groups',)
 RESOURCES = ('search', 'traversal', 'primitive', 'item')
 SIDES = ('lesser', 'greater')
 PLAIN = {'no one': 0, 'everyone': 1, 'owner': 2}
@@ -62,7 +66,7 @@ class SchemeLines(Lines):
         words, value = key.split(), value.strip()
         if not colon or not words:
             raise Fault("a line is 'KEY: VALUE'")
-        if words[0] in SINGLE and len(words) == 1:
+        if words[0] in SINGLE + OPTIONAL and len(words) == 1:
             if words[0] in self.single:
                 raise Fault("'%s' stands in line %d already" % (words[0], self.single[words[0]][0]))
             self.single[words[0]] = (place, value)
@@ -74,10 +78,10 @@ class SchemeLines(Lines):
             self.resources.append((place, words, value.split()))
         else:
             raise Fault("unknown key '%s'; the keys are %s, move, policy NAME, search, traversal, primitive NAME and item NAME"
-                        % (shown(' '.join(words)), ', '.join(SINGLE)))
+                        % (shown(' '.join(words)), ', '.join(SINGLE + OPTIONAL)))
 
     def value(self, key):
-        """The line of a key that stands once, and its value; nothing where it is missing."""
+        """The line of a key that stands once, and its value; 0 and nothing where it is missing."""
         return self.single.get(key, (0, ''))
 
 
@@ -85,18 +89,34 @@ def parse_scheme(name, data):
     """The names and the bytes of a scheme's text; BadText where it has faults."""
     lines = SchemeLines(name, data)
     names = parse_names(lines)
-    members = None
-    place, value = lines.value('members')
-    if place:
-        with lines.at(place):
-            members = number(value, 'members', 1, ref.LIMITS.members)
+    members = parse_members(lines)
+    groups = parse_groups(lines, members)
     friends = parse_friends(lines, names)
     moves = parse_moves(lines, names)
     policies = parse_policies(lines, names)
     masks = parse_masks(lines, names)
     lines.finish()
     counts = (members, len(names.states), len(names.primitives), len(names.items), len(names.policies))
-    return Names(*map(list, names)), ref.build_scheme(counts, moves, friends, policies, masks)
+    return Names(*map(list, names)), ref.build_scheme(counts, moves, friends, policies, masks, groups)
+
+
+def parse_members(lines):
+    place, value = lines.value('members')
+    with lines.at(place):
+        return number(value, 'members', 1, ref.LIMITS.members) if place else None
+
+
+def parse_groups(lines, members):
+    """The members that are groups; None where no line says so."""
+    place, value = lines.value('groups')
+    groups = set()
+    for word in value.split():
+        with lines.at(place):
+            m = number(word, "a member's number", 0, (members or ref.LIMITS.members) - 1)
+            if m in groups:
+                raise Fault('the member %d is named twice' % m)
+            groups.add(m)
+    return groups if place else None
 
 
 def add_name(names, word, what, most):
@@ -261,10 +281,15 @@ def policy_words(policy, names):
     return next(words for words, plain in PLAIN.items() if kind == plain)
 
 
+def groups_lines(scheme):
+    """The line of a sixth record, or none."""
+    return [] if scheme.groups is None else ['groups: ' + ' '.join(map(str, sorted(ref.group_members(scheme))))]
+
+
 def scheme_text(scheme, names):
     """The text of a scheme whose check answers 0 or 4."""
     counts = scheme.counts
-    text = ['members: %d' % counts.members, 'states: ' + ' '.join(names.states),
+    text = ['members: %d' % counts.members, *groups_lines(scheme), 'states: ' + ' '.join(names.states),
             'friends: ' + chosen(names.states, ref.mask_of(q for q, mark in enumerate(scheme.marks) if mark)),
             'primitives: ' + ' '.join(names.primitives), 'items: ' + ' '.join(names.items), '']
     for place, after in enumerate(scheme.moves):

@@ -131,7 +131,7 @@ class Tables(unittest.TestCase):
         told = {cells[0]: [int(re.sub('[^0-9]', '', cell) or -1) for cell in cells[1:]] for cells in rows('Limits', 'what')}
         least, most = ref.Counts(1, 1, 1, 1, 1), ref.LIMITS
         wanted = {'resources R = 2 + A + I': ref.resources, 'a network': ref.network_length,
-                  'an accepted scheme': lambda counts: 10 + sum(4 + length for length in ref.body_lengths(counts)),
+                  'an accepted scheme': lambda counts: ref.five_records(counts) + (4 + most.members if counts == most else 0),
                   'degree of two members that have one': lambda counts: counts.members - 1,
                   'pair bytes of a network': lambda counts: ref.pair_count(counts.members),
                   'setting bytes of a network': lambda counts: ref.network_length(counts) - ref.pair_count(counts.members)}
@@ -139,6 +139,7 @@ class Tables(unittest.TestCase):
             wanted[name] = lambda counts, place=place: counts[place]
         for place in range(4):
             wanted['body of kind %d' % (place + 2)] = lambda counts, place=place: ref.body_lengths(counts)[place]
+        wanted['body of kind 6'] = lambda counts: counts.members
         for name, value in wanted.items():
             self.assertEqual(told[name], [value(least), value(most)], name)
         self.assertEqual(told['a log that is run'], [0, ref.LOG_LIMIT])

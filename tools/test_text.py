@@ -63,24 +63,42 @@ class Schemes(unittest.TestCase):
         self.assertTrue(all(answers[answer] >= 20 for answer in range(5)), answers)
 
     def test_one_byte_changed(self):
-        for scheme, inside in ((ref.standard_scheme(4), (14, 46, 50, 54)), (content(EXAMPLES, 'staged', 'scheme'), None)):
+        told = [*range(14, 46), *range(50, 54), *range(154, 158)]       # moves, marks and groups of the standard scheme
+        for scheme, alone in ((ref.standard_scheme(4, [1, 3]), told), (content(EXAMPLES, 'staged', 'scheme'), [])):
             for at in range(len(scheme)):
                 for value in (0, 1, 2, 4, 13, 254, 255):
                     damaged = changed(scheme, at, value)
                     answer = self.there_and_back(damaged)
-                    places = [place for place, _ in examine(damaged).faults]
-                    if answer == 3 and inside and (inside[0] <= at < inside[1] or inside[2] <= at < inside[3]):
-                        self.assertEqual(places, [at])      # moves and marks: this byte and no other is told
+                    if answer == 3 and at in alone:
+                        self.assertEqual([place for place, _ in examine(damaged).faults], [at])
 
     def test_every_cut(self):
-        scheme = ref.standard_scheme(4)
-        for size in range(len(scheme)):
-            self.assertEqual(self.there_and_back(scheme[:size]), 1)
+        scheme = ref.standard_scheme(4, [1])
+        answers = [self.there_and_back(scheme[:size]) for size in range(len(scheme) + 1)]
+        self.assertEqual([size for size, answer in enumerate(answers) if answer != 1], [150, 158])
+        self.assertEqual(answers[150] + answers[158], 0)
+
+    def test_groups(self):
+        """No sixth record, one of persons alone, and ones with groups: each has a text of its own."""
+        for members, groups, line in ((4, None, None), (4, [], 'groups:'), (4, [2], 'groups: 2'), (4, range(4), 'groups: 0 1 2 3'),
+                                      (1, [0], 'groups: 0'), (256, [255, 0], 'groups: 0 255'),
+                                      (256, range(256), 'groups: ' + ' '.join(map(str, range(256))))):
+            scheme = ref.standard_scheme(members, groups)
+            self.assertEqual(self.there_and_back(scheme), 0)
+            text = scheme_text(examine(scheme).scheme, known_names(scheme)).split('\n')
+            self.assertEqual([told for told in text if told.startswith('groups')], [line] if line else [])
+
+    def test_order_of_groups(self):
+        """The members of a groups line may stand in any order, and the line anywhere."""
+        text = content(EXAMPLES, 'standard', 'scheme.txt').decode()
+        for line in ('groups: 3 0', 'groups:0  03 # a comment'):
+            for given in (line + '\n' + text, text + line):
+                self.assertEqual(parse_scheme('S', given.encode())[1], ref.standard_scheme(4, [0, 3]))
 
     def test_arbitrary_bytes(self):
         rng = random.Random('arbitrary bytes')
         for _ in range(300):
-            self.there_and_back(ref.standard_scheme(3)[:rng.randrange(150)] + rng.randbytes(rng.randrange(200)))
+            self.there_and_back(ref.standard_scheme(3, [2])[:rng.randrange(158)] + rng.randbytes(rng.randrange(200)))
 
     def test_faults_name_the_byte(self):
         scheme = ref.standard_scheme(4)
@@ -104,7 +122,22 @@ class Schemes(unittest.TestCase):
                 (mask, 16, (mask, 'record 5 (masks): the lowest policy for search, 4, admits strangers')),
                 (mask + 1, 16, (mask, 'record 5 (masks): the lowest policy for search, 12, admits strangers'))):
             self.assertEqual(examine(changed(scheme, at, value)).faults, [told], (at, value))
-        self.assertEqual(examine(scheme + b'ab').faults, [(150, 'bytes follow the fifth record')])
+        sixth = ref.groups_record(4, [1])
+        cut = 'record 6 (groups) is cut: its '
+        for more, told in ((b'ab', (152, cut + 'head has 4 bytes, and 2 are there')),
+                           (sixth[:4], (154, cut + 'body has 4 bytes, and 0 are there')),
+                           (sixth[:7], (157, cut + 'body has 4 bytes, and 3 are there')),
+                           (ref.record(7, sixth[4:]), (152, 'record 6 (groups) has kind 7')),
+                           (ref.record(5, scheme[114:]), (150, 'record 6 (groups) gives its body 36 bytes, and it has 4')),
+                           (ref.record(6, b'\0' * 3), (150, 'record 6 (groups) gives its body 3 bytes, and it has 4')),
+                           (ref.record(6, b'\0' * 5), (150, 'record 6 (groups) gives its body 5 bytes, and it has 4')),
+                           (changed(sixth, 1, 1), (150, 'record 6 (groups) gives its body 260 bytes, and it has 4')),
+                           (sixth + b'\0', (158, 'bytes follow the sixth record')),
+                           (sixth + sixth, (158, 'bytes follow the sixth record')),
+                           (changed(sixth, 6, 2), (156, 'record 6 (groups): the byte of member 2 is 0 or 1, and not 2'))):
+            self.assertEqual(examine(scheme + more).faults, [told])
+        off = changed(changed(sixth, 7, 255), 4, 128)
+        self.assertEqual([at for at, _ in examine(changed(scheme, 14, 4) + off).faults], [14, 154, 157])
         for size, told in ((120, 'record 5 (masks) is cut: its body has 36 bytes, and 6 are there'),
                            (114, 'record 5 (masks) is cut: its body has 36 bytes, and 0 are there'),
                            (113, 'record 5 (masks) is cut: its head has 4 bytes, and 3 are there')):
@@ -247,7 +280,7 @@ ACCEPT = 'primitive accept: everyone'
 
 # lines of too many names: ALL stands for all of them, EACH for one a line
 MANY_NAMES = [('states: ALL',), ('states: ALL', 'friends: ALL'), ('states: ALL', 'policy p: state {ALL}'),
-              ('primitives: ALL', 'items: ALL'), ('primitives: ALL', 'primitive EACH: p'),
+              ('members: 4', 'groups: ALL'), ('primitives: ALL', 'items: ALL'), ('primitives: ALL', 'primitive EACH: p'),
               ('policy EACH: no one', 'search: ALL'), ('policy EACH: both n0 EACH',),
               ('states: ALL', 'primitives: n0', 'move: EACH, lesser, n0 -> EACH'),
               ('move: ,ALL', 'move: ->ALL')]
@@ -262,11 +295,20 @@ SCHEME_FAULTS = [
     ('members: 4', '', [(None, "there is no line 'members: ..'")]),
     ('members: 4', 'members: 4\nmembers: 5', [(1, "'members' stands in line 3 already")]),
     ('members: 4', 'people: 4', [(None, "there is no line 'members: ..'"),
-                                 (0, "unknown key 'people'; the keys are members, states, friends, primitives, items, move, "
-                                     "policy NAME, search, traversal, primitive NAME and item NAME")]),
+                                 (0, "unknown key 'people'; the keys are members, states, friends, primitives, items, groups, "
+                                     "move, policy NAME, search, traversal, primitive NAME and item NAME")]),
     ('members: 4', 'members 4', [(None, "there is no line 'members: ..'"), (0, "a line is 'KEY: VALUE'")]),
     ('members: 4', 'members: 4 \xff', [(None, "there is no line 'members: ..'"),
                                        (0, 'byte 12 of the line is not UTF-8 text')]),
+    ('members: 4', 'members: 4\ngroups: 4', [(1, "a member's number is 0 to 3, and not 4")]),
+    ('members: 4', 'members: 4\ngroups: 0 x 1', [(1, "a member's number is a number, and 'x' is none")]),
+    ('members: 4', 'members: 4\ngroups: 0, 1', [(1, "a member's number is a number, and '0,' is none")]),
+    ('members: 4', 'members: 4\ngroups: 3 1 03', [(1, 'the member 3 is named twice')]),
+    ('members: 4', 'members: 4\ngroups: 3\ngroups:', [(2, "'groups' stands in line 4 already")]),
+    ('members: 4', 'members: 4\ngroups 3', [(1, "a line is 'KEY: VALUE'")]),
+    ('members: 4', 'members: 257\ngroups: 255 256', [(0, 'members is 1 to 256, and not 257'),
+                                                     (1, "a member's number is 0 to 255, and not 256")]),
+    ('members: 4', 'groups: 256', [(None, "there is no line 'members: ..'"), (0, "a member's number is 0 to 255, and not 256")]),
     ('friends: friend', 'friends: frend', [(0, "there is no state 'frend'")]),
     ('friends: friend', 'friends: friend friend', [(0, "the state 'friend' is named twice")]),
     (ITEMS, ITEMS + ' recipe', [(0, "the item 'recipe' is defined twice")]),
@@ -328,7 +370,7 @@ LOG_FAULTS = [
 
 class Examples(unittest.TestCase):
     def test_examples(self):
-        for name in ('standard', 'staged'):
+        for name in ('groups', 'staged', 'standard'):
             folder = os.path.join(EXAMPLES, name)
             names, scheme = parse_scheme('scheme.txt', content(folder, 'scheme.txt'))
             log = parse_log('requests.txt', content(folder, 'requests.txt'), names)
@@ -338,6 +380,22 @@ class Examples(unittest.TestCase):
             again = scheme_text(examine(scheme).scheme, names), log_text(log, names)
             self.assertEqual(parse_scheme('', again[0].encode()), (names, scheme))
             self.assertEqual(parse_log('', again[1].encode(), names), log)
+
+    def test_groups(self):
+        """Without the sixth record the marked requests are granted, and all else is answered alike."""
+        text = content(EXAMPLES, 'groups', 'requests.txt').decode().split('\n')
+        requests = [line for line in text if line.split('#')[0].strip()]
+        marked = [place for place, line in enumerate(requests, 1) if '# *' in line]
+        log = content(EXAMPLES, 'groups', 'requests')
+        given = content(EXAMPLES, 'groups', 'scheme.txt')
+        self.assertEqual(given.count(b'\ngroups: 6 7 '), 1)
+        persons = parse_scheme('S', given.replace(b'groups: 6 7 ', b'groups:'))[1]
+        bare = parse_scheme('S', re.sub(b'groups: .*\n', b'', given))[1]
+        with_groups, without = ref.run(content(EXAMPLES, 'groups', 'scheme'), log), ref.run(bare, log)
+        self.assertEqual(ref.run(persons, log), without)
+        self.assertEqual([pair for pair in zip(with_groups, without) if pair[0] != pair[1]],
+                         [('%d 11' % place, '%d 0' % place) for place in marked])
+        self.assertGreater(len(marked), 5)
 
     def test_standard(self):
         self.assertEqual(content(EXAMPLES, 'standard', 'scheme'), ref.standard_scheme(4))
@@ -382,6 +440,24 @@ class Commands(unittest.TestCase):
         self.command('write', '.')
         self.assertEqual((content(self.folder, 'scheme'), content(self.folder, 'requests')), before)
 
+    def test_write_and_read_groups(self):
+        os.remove(os.path.join(self.folder, 'scheme.txt'))
+        self.put('requests', b'')
+        for groups, line in ((None, b''), ([], b'groups:\n'), ([3, 1], b'groups: 1 3\n')):
+            scheme = ref.standard_scheme(4, groups)
+            self.put('scheme', scheme)
+            self.command('read', '--replace', '.')
+            self.assertIn(b'members: 4\n' + line + b'states: ', content(self.folder, 'scheme.txt'))
+            self.put('scheme', b'')
+            self.assertIn('./scheme: %d bytes; the scheme check answers 0' % len(scheme), self.command('write', '.'))
+            self.assertEqual(content(self.folder, 'scheme'), scheme)
+        for off, told in ((scheme[:-1] + b'\2', 'answers 3: a byte inside kinds 2 to 6 breaks what documents 01 and 02 say of it\n'
+                                                '  byte 157: record 6 (groups): the byte of member 3 is 0 or 1, and not 2\n'),
+                          (scheme + b'\0', 'answers 1: a record is cut, of another kind or of another length, or bytes follow the '
+                                           'last\n  byte 158: bytes follow the sixth record\n')):
+            self.put('scheme', off)
+            self.assertEqual(self.command('read', '--replace', '.', status=1), './scheme: the scheme check ' + told)
+
     def test_bad_text_writes_nothing(self):
         self.put('requests.txt', b'find 0 1\nfind 0 one\n')
         told = self.command('write', '.', status=1)
@@ -396,7 +472,7 @@ class Commands(unittest.TestCase):
         self.put('requests', b'\1\2\3')
         self.put('scheme', changed(ref.standard_scheme(4), 14, 4))
         self.assertEqual(self.command('read', '.', status=1),
-                         './scheme: the scheme check answers 3: a byte inside kinds 2 to 5 breaks what document 01 says of it\n'
+                         './scheme: the scheme check answers 3: a byte inside kinds 2 to 6 breaks what documents 01 and 02 say of it\n'
                          '  byte 14: record 2 (moves): the next state for state 0, lesser, primitive 0 is 4, and there are 4 '
                          'states\n')
         self.assertFalse(os.path.exists(os.path.join(self.folder, 'scheme.txt')))
@@ -488,7 +564,8 @@ class Commands(unittest.TestCase):
             os.mkfifo(os.path.join(self.folder, name))
             self.put(name + '.bytes', data)
         feed = 'cat scheme.bytes %s > scheme & cat requests.bytes > requests & exec "$@"'
-        for more, told in (('', '16  view 2 0 item-1'), ('/dev/zero', 'byte 150: bytes follow the fifth record')):
+        for more, told in (('', '16  view 2 0 item-1'),
+                           ('/dev/zero', 'byte 150: record 6 (groups) gives its body 0 bytes, and it has 4')):
             self.assertIn(told, self.command('run', '.', '--program', REFERENCE, before=('sh', '-c', feed % more, 'sh')))
 
     def test_both_files_or_none(self):

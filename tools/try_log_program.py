@@ -33,9 +33,11 @@ def file_cases():
     """None stands for a missing file, and 'folder' for a folder in its place."""
     scheme, log = ref.standard_scheme(4), ref.build_log(ref.parsed(text) for text, _ in ref.SESSION)
     files = [(unread, unread) for unread in (None, 'folder')]
+    files += [(ref.standard_scheme(4, groups), log) for groups in ([], [1])]
     files += [pair for unread in (None, 'folder') for pair in ((unread, log), (scheme, unread))]
     for size in (65536, 65537, 70000, 1000000):
-        files += [(scheme + bytes(size - len(scheme)), log), (scheme, bytes(size)), (bytes(size), bytes(size)),
+        files += [(given + bytes(size - len(given)), log) for given in (scheme, ref.standard_scheme(4, [1]))]
+        files += [(scheme, bytes(size)), (bytes(size), bytes(size)),
                   (scheme, (log * (1 + size // len(log)))[:size])]
     for pair in files:
         counted = [b'' if content in (None, 'folder') else content for content in pair]

@@ -25,8 +25,9 @@ fn print_admitted(
 {
     let mut distances = [0u16; 256];
     let mut rows = [[0u64; 4]; 256];
-    prepared::prepare(world, v, &mut distances, &mut rows);
-    let accessor = Accessor::new(world, v, &distances, &rows);
+    let mut persons = [0; 4];
+    prepared::prepare(world, v, &mut distances, &mut rows, &mut persons);
+    let accessor = Accessor::new(world, v, &distances, &rows, &persons);
     let set = policies::admitted(&accessor, u, 0, world.scheme.counts.policies);
     println!(rt; "{number} {v} {u} {set}")
 }

@@ -34,8 +34,9 @@ fn ask<R, F: FnOnce(&Accessor<'_>) -> R>(world: &World<'_>, v: usize, asked: F) 
 {
     let mut distances = [0; 256];
     let mut rows = [[0; 4]; 256];
-    prepared::prepare(world, v, &mut distances, &mut rows);
-    asked(&Accessor::new(world, v, &distances, &rows))
+    let mut persons = [0; 4];
+    prepared::prepare(world, v, &mut distances, &mut rows, &mut persons);
+    asked(&Accessor::new(world, v, &distances, &rows, &persons))
 }
 
 // Whether v finds u.
@@ -54,12 +55,16 @@ pub fn found(world: &World<'_>, v: usize, u: usize) -> bool
         )
 }
 
-// Marks everyone whom v finds.
-pub fn everyone(world: &World<'_>, v: usize) -> [u16; 256]
+// Marks everyone whom v finds. No closure can say what it leaves in a lent place, so the accessor is prepared here too.
+pub fn everyone(world: &World<'_>, v: usize, found: &mut [u16; 256])
     requires { v < members_in world.now }
-    ensures { Everyone (world_in world.now) v result }
+    ensures { Everyone (world_in world.now) v found.new }
 {
-    ask(world, v, finding::everyone)
+    let mut distances = [0; 256];
+    let mut rows = [[0; 4]; 256];
+    let mut persons = [0; 4];
+    prepared::prepare(world, v, &mut distances, &mut rows, &mut persons);
+    finding::everyone(&Accessor::new(world, v, &distances, &rows, &persons), found);
 }
 
 // What is granted to a member that is u or its friend, and so finds it.

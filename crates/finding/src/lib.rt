@@ -31,13 +31,12 @@ pub fn finds(accessor: &Accessor<'_>, u: usize) -> bool
     walk::walk(accessor, Some(u), &mut seen)
 }
 
-// Marks everyone whom the accessor finds.
-pub fn everyone(accessor: &Accessor<'_>) -> [u16; 256]
-    ensures { Everyone (world_asked accessor.now) accessor.now.v result }
+// Marks everyone whom the accessor finds. The marks are lent: an array handed back would be copied.
+pub fn everyone(accessor: &Accessor<'_>, found: &mut [u16; 256])
+    ensures { Everyone (world_asked accessor.now) accessor.now.v found.new }
 {
-    let mut found = [0u16; 256];
-    starts::begin(accessor.world, accessor.v, &mut found);
-    starts::search(accessor, None, &mut found);
-    walk::walk(accessor, None, &mut found);
-    found
+    *found = [0u16; 256];
+    starts::begin(accessor.world, accessor.v, found);
+    starts::search(accessor, None, found);
+    walk::walk(accessor, None, found);
 }

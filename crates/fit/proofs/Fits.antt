@@ -1,25 +1,26 @@
--- What the code tests of the bytes of kinds 2 to 5 is what the definition says of them.
-use Prim.Native.Nat.{ℕ, zero, suc, ◌+◌, ◌-◌, ◌*◌, ◌/◌, ◌%◌, ◌^◌, ◌≤◌, ◌<◌}
+-- What the code tests of the bytes of kinds 2 to 6 is what the definition says of them.
+use Prim.Native.Nat.{ℕ, zero, suc, ◌+◌, ◌-◌, ◌*◌, ◌/◌, ◌%◌, ◌^◌, ◌≤◌, ◌<◌, min}
 use mathlib.Core.Path.{◌≡◌, refl, ap, ◌∙◌}
 use mathlib.Core.List.{List, [], ◌∷◌}
 use mathlib.Core.Bool.{Bool}
 use mathlib.Core.Logic.{inl, inr}
 use native.Mathlib.Nat.{mod-le}
-use native.Mathlib.Decide.{ℕ_discrete}
+use native.Mathlib.Decide.{ℕ_discrete, dec_lt}
 use native.Mathlib.Omega.{arith}
 use lib.Dec.{eqb, leb}
 use lib.ListN.{length, get_or, take, drop}
 use Rattle.std.specs.Simd.{first_chunks}
-use Rattle.std.proofs.lemmas.List.{get_or-take, get_or-drop, length-take-le}
+use Rattle.std.proofs.lemmas.List.{get_or-take, get_or-drop, length-take-le, get_or_past}
 use Rattle.std.proofs.Common.{length-drop}
 use Rattle.model.specs.Bytes.{byte, four, NoBitFrom}
 use Rattle.model.specs.Decides.{Decides}
 use Rattle.model.proofs.Bits.{shr_zero, zero_shr}
 use Rattle.model.proofs.Deciding.{is_eq, Says, says, iff, is_le}
-use Rattle.model.specs.SchemeBytes.{S, A, I, P, at2, at3, at4, at5, field, MoveFits, PolicyFits, MaskFits, Records}
+use Rattle.model.specs.SchemeBytes.{S, A, I, P, n, at2, at3, at4, at5, at6, field, MoveFits, PolicyFits, MaskFits, Records}
 use Rattle.records.proofs.Most.{Most, raised}
 use Rattle.tables.specs.declared.counts.Summary.{Summary}
 use Rattle.tables.proofs.Places.{Places}
+use Rattle.tables.proofs.Grouped.{behind, few_behind}
 
 -- a next state raised by 1 is 0 where it is undefined
 unraised : (S x : ℕ) → x < 256 → (x + 1) % 256 ≤ S → MoveFits S x
@@ -42,10 +43,10 @@ moves_say s S most small m =
     (λ f. (m S).1 (λ k h. raised_fits S (byte s k) (f k h)))
     (is_le most S)
 
--- and the greatest of the marks
-pub marks_say : (s : List ℕ) (most : ℕ) → ((k : ℕ) → byte s k < 256) → Most (raised s 0) (length s) most
+-- and the greatest of some flags
+pub flags_say : (s : List ℕ) (most : ℕ) → ((k : ℕ) → byte s k < 256) → Most (raised s 0) (length s) most
     → Says (leb most 1) ((k : ℕ) → k < length s → byte s k ≤ 1)
-marks_say s most small m =
+flags_say s most small m =
     iff (λ l k h. omega (arith, small k, (m 1).0 l k h)) (λ f. (m 1).1 (λ k h. omega (arith, f k h))) (is_le most 1)
 
 -- a set shifted by n is 0 where it has no bit from n
@@ -84,6 +85,9 @@ module _ (b : List ℕ) where
   abbrev pub Masks : Type 0
   Masks = (r : ℕ) → r < 2 + A b + I b → MaskFits (P b) (four b (at5 b + 4 + r * 4))
 
+  abbrev pub Groups : Type 0
+  Groups = (m : ℕ) → m < n b → byte b (at6 b + 4 + m) ≤ 1
+
 -- byte k of a part
 part_byte : (b : List ℕ) (from size k : ℕ) → k < size → byte (take size (drop from b)) k ≡ byte b (from + k)
 part_byte b from size k l = get_or-take size (drop from b) k 0 l ∙ get_or-drop from b k 0
@@ -95,7 +99,7 @@ part_long b from size l = length-take-le size (drop from b) (omega (arith, lengt
 each : {P Q : ℕ → Type 0} {x : Bool} {n m : ℕ} → n ≡ m → ((k : ℕ) → k < m → P k ≡ Q k) → Says x ((k : ℕ) → k < n → P k) → Says x ((k : ℕ) → k < m → Q k)
 each {m = m} e f = iff (λ h k l. rw (← f k l) (h k (rw e l))) (λ h k l. let i : k < m = rw e at l in rw (f k i) (h k i))
 
-module _ {b : List ℕ} {c : Summary} {marks policies masks : ℕ} (o : Places b c marks policies masks) where
+module _ {b : List ℕ} {c : Summary} {marks policies masks groups : ℕ} (o : Places b c marks policies masks groups) where
   pub fits_moves : (x : Bool) → Records b → let part = take (marks - 4 - 14) (drop 14 b) in Decides x ((k : ℕ) → k < length part → MoveFits c.states (byte part k)) → Says x (Moves b)
   fits_moves x r d =
       let size : marks - 4 - 14 ≡ S b * 2 * A b = omega (arith, o.marks_at) in
@@ -114,7 +118,23 @@ module _ {b : List ℕ} {c : Summary} {marks policies masks : ℕ} (o : Places b
       same : (p : ℕ) → p < P b → (i k : ℕ) → i < 4 → k ≡ p * 4 + i → byte (take (P b * 4) (drop (at4 b + 4) b)) k ≡ field b p i
       same p l i k h e = part_byte b (at4 b + 4) (P b * 4) k (omega arith) ∙ ap (byte b) (omega arith)
 
-  pub fits_masks : (x : Bool) → Records b → let part = take (length b - masks) (drop masks b) in Decides x ((r : ℕ) → r < length part / 4 → MaskFits c.policies (four part (r * 4))) → Says x (Masks b)
+  pub fits_masks : (x : Bool) → Records b → let part = take (groups - 4 - masks) (drop masks b) in Decides x ((r : ℕ) → r < length part / 4 → MaskFits c.policies (four part (r * 4))) → Says x (Masks b)
   fits_masks x r d =
-      let long = part_long b masks (length b - masks) (omega (arith, o.masks_at, r.no_more)) in
-      each (omega (arith, long, o.masks_at, r.no_more)) (λ k l. ap (MaskFits (P b)) (grind (arith, part_byte b masks (length b - masks), o.masks_at, r.no_more))) (rw o.counts.policies at (says {b = x} d))
+      let size : groups - 4 - masks ≡ (2 + A b + I b) * 4 = omega (arith, o.masks_at, o.groups_at) in
+      let long = part_long b masks (groups - 4 - masks) (omega (arith, o.masks_at, o.groups_at, r.masks.0)) in
+      each (omega (arith, long, size)) (λ k l. ap (MaskFits (P b)) (grind (arith, part_byte b masks (groups - 4 - masks), o.masks_at, size))) (rw o.counts.policies at (says {b = x} d))
+
+  pub fits_groups : (x : Bool) (k : ℕ) → Records b → k ≡ min groups (length b)
+      → let part = take (length b - k) (drop k b) in Decides x ((m : ℕ) → m < length part → byte part m ≤ 1)
+      → Says x (Groups b)
+  fits_groups x k r e d =
+      let h : Decides x ((m : ℕ) → m < length (drop (at6 b + 4) b) → byte (drop (at6 b + 4) b) m ≤ 1) = rw (behind b groups k e, o.groups_at) at d in
+      iff
+      (λ f m l. rw (← get_or-drop (at6 b + 4) b m 0) (each_byte f m (dec_lt m (length (drop (at6 b + 4) b)))))
+      (λ f m l. rw (get_or-drop (at6 b + 4) b m 0) (f m (omega (arith, l, few_behind b r))))
+      (says {b = x} h)
+    where
+      each_byte : ((m : ℕ) → m < length (drop (at6 b + 4) b) → byte (drop (at6 b + 4) b) m ≤ 1) → (m : ℕ) → Dec (m < length (drop (at6 b + 4) b))
+          → byte (drop (at6 b + 4) b) m ≤ 1
+      each_byte f m (yes l) = f m l
+      each_byte f m (no l) = rw (get_or_past (drop (at6 b + 4) b) m 0 (omega arith)) (omega arith)

@@ -19,11 +19,11 @@ fn moves_fit(moves: &[u8], states: usize) -> bool
     usize::from(records::greatest(moves, 1)) <= states
 }
 
-// Whether each state's mark is 0 or 1.
-fn marks_fit(marks: &[u8]) -> bool
-    ensures { Decides result ((q : ℕ) → q < length marks.now → byte marks.now q ≤ 1) }
+// Whether each byte is 0 or 1.
+fn flags_fit(flags: &[u8]) -> bool
+    ensures { Decides result ((k : ℕ) → k < length flags.now → byte flags.now k ≤ 1) }
 {
-    records::greatest(marks, 0) <= 1
+    records::greatest(flags, 0) <= 1
 }
 
 // Whether a policy that names no other and no state has k in its range.
@@ -99,7 +99,7 @@ fn masks_fit(masks: &[u8], policies: usize) -> bool
     true
 }
 
-// Whether each byte of kinds 2 to 5 is what is said of it.
+// Whether each byte of kinds 2 to 6 is what is said of it.
 pub fn bytes_fit(s: &[u8], c: Summary) -> bool
     requires { CountsOf s.now c × Records s.now }
     ensures { Decides result (BytesFit s.now) }
@@ -107,8 +107,10 @@ pub fn bytes_fit(s: &[u8], c: Summary) -> bool
     let marks = c.marks_at();
     let policies = c.policies_at();
     let masks = c.masks_at();
+    let groups = c.groups_at();
     moves_fit(&s[14..marks - 4], c.states)
-        && marks_fit(&s[marks..policies - 4])
+        && flags_fit(&s[marks..policies - 4])
         && policies_fit(&s[policies..masks - 4], c.states)
-        && masks_fit(&s[masks..], c.policies)
+        && masks_fit(&s[masks..groups - 4], c.policies)
+        && flags_fit(&s[groups.min(s.len())..])
 }

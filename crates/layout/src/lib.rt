@@ -2,9 +2,10 @@
 
 #![tactic(auto)]
 
-ghost use Rattle.std.specs.Prelude.{◌≡◌, ◌≤◌, [], ◌∷◌, length, MatchOption};
+ghost use Rattle.std.specs.Prelude.{◌≡◌, ◌≤◌, ◌+◌, ◌⊎◌, [], ◌∷◌, length, MatchOption};
 ghost use Rattle.model.specs.Decides.{Decides};
-ghost use Rattle.model.specs.SchemeBytes.{n, S, A, I, P, Records};
+ghost use Rattle.model.specs.Bytes.{RecordAt};
+ghost use Rattle.model.specs.SchemeBytes.{n, S, A, I, P, at6, Records};
 ghost use Rattle.tables.specs.Read.{CountsOf};
 ghost use Rattle.layout.specs.Counted.{Counted};
 
@@ -47,7 +48,17 @@ pub fn summary(s: &[u8]) -> Option<Summary>
     })
 }
 
-// Whether the records of kinds 2 to 5 are whole and nothing follows them.
+// Whether nothing follows the fifth record, or one whole record of kind 6.
+fn ends(s: &[u8], c: Summary) -> bool
+    requires { CountsOf s.now c }
+    ensures { Decides result ((length s.now ≡ at6 s.now) ⊎ (RecordAt s.now (at6 s.now) 6 (n s.now) × (length s.now ≡ at6 s.now + 4 + n s.now))) }
+{
+    let groups = c.groups_at();
+    s.len() == groups - 4
+        || s.len() == groups + c.members && records::record_at(s, groups - 4, 6, c.members)
+}
+
+// Whether the records of kinds 2 to 5 are whole, and nothing follows them but a sixth.
 pub fn records(s: &[u8], c: Summary) -> bool
     requires { CountsOf s.now c }
     ensures { Decides result (Records s.now) }
@@ -56,9 +67,9 @@ pub fn records(s: &[u8], c: Summary) -> bool
     let policies = c.policies_at();
     let masks = c.masks_at();
     let resources = c.resources();
-    s.len() == masks + 4 * resources
-        && records::record_at(s, 10, 2, marks - 18)
+    records::record_at(s, 10, 2, marks - 18)
         && records::record_at(s, marks - 4, 3, c.states)
         && records::record_at(s, policies - 4, 4, 4 * c.policies)
         && records::record_at(s, masks - 4, 5, 4 * resources)
+        && ends(s, c)
 }

@@ -19,11 +19,13 @@ pub mod Overlong
 pub mod Held
 pub mod ByteChanged
 pub mod Symmetry
+pub mod Groups
 pub mod KeepsFit
 -- the log, the standard scheme, the examples
 pub mod Logging
 pub mod Texts
 pub mod StandardRead
+pub mod Longest
 pub mod Meaning
 pub mod SessionRead
 pub mod Exemplified

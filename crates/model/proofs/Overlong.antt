@@ -1,36 +1,43 @@
 -- A scheme file longer than every accepted one is refused by its first bytes.
-use Prim.Native.Nat.{ℕ, zero, suc, ◌*◌, ◌<◌, ◌≤◌}
+use Prim.Native.Nat.{ℕ, zero, suc, ◌+◌, ◌*◌, ◌<◌, ◌≤◌}
 use mathlib.Core.Path.{◌≡◌, refl}
 use mathlib.Core.List.{List, [], ◌∷◌, ◌++◌}
-use mathlib.Core.Logic.{inl, inr}
+use mathlib.Core.Logic.{◌⊎◌, inl, inr}
 use native.Mathlib.Omega.{arith}
 use native.Mathlib.Nat.{mul-le-mul}
 use lib.ListN.{length, get_or, length-append}
 use Rattle.model.specs.Answers.{Answers}
 use Rattle.model.specs.Bytes.{RecordAt}
-use Rattle.model.specs.SchemeBytes.{CountsFit, scheme_needs, Accepted, end}
+use Rattle.model.specs.SchemeBytes.{CountsFit, Records, scheme_needs, Accepted, n, at6, longest_scheme}
 
 front : (b rest : List ℕ) (k : ℕ) → k < length b → get_or (b ++ rest) k 0 ≡ get_or b k 0
 front [] rest k h = absurd (omega arith)
 front (x ∷ b) rest zero h = refl
 front (x ∷ b) rest (suc k) h = front b rest k (omega arith)
 
-end_small : (b : List ℕ) → CountsFit b → end b ≤ 530
-end_small b c =
+five_small : (b : List ℕ) → CountsFit b → at6 b ≤ 530
+five_small b c =
     let (s, t) = c.states in
     let (p, q) = c.primitives in
     let w : get_or b 6 0 * 2 ≤ 32 = omega arith in
     let m : get_or b 6 0 * 2 * get_or b 7 0 ≤ 32 * 8 = mul-le-mul w q in
     omega (arith, m, t, q, c.items.1, c.policies.1)
 
--- an accepted scheme has at most 530 bytes
-pub fits : (b : List ℕ) → Accepted b → length b ≤ 530
+-- and a sixth record has at most 260
+all_small : (b : List ℕ) → CountsFit b → Records b → length b ≤ longest_scheme
+all_small b c r = go r.groups
+  where
+    go : (length b ≡ at6 b) ⊎ (RecordAt b (at6 b) 6 (n b) × (length b ≡ at6 b + 4 + n b)) → length b ≤ longest_scheme
+    go (inl e) = omega (arith, e, five_small b c)
+    go (inr (h, e)) = omega (arith, e, five_small b c, c.members.1)
+
+pub fits : (b : List ℕ) → Accepted b → length b ≤ longest_scheme
 fits b (inl (n, e)) = absurd (omega arith)
 fits b (inr (h, inl (n, e))) = absurd (omega arith)
 fits b (inr (h, inr (c, inl (n, e)))) = absurd (omega arith)
-fits b (inr (h, inr (c, inr (r, p)))) = omega (arith, r.no_more, end_small b c)
+fits b (inr (h, inr (c, inr (r, p)))) = all_small b c r
 
-module _ (b rest : List ℕ) (long : 530 < length b) where
+module _ (b rest : List ℕ) (long : longest_scheme < length b) where
   head : RecordAt (b ++ rest) 0 1 6 → RecordAt b 0 1 6
   head (l, s, k) = (omega arith, rw (front b rest 0 (omega arith), front b rest 1 (omega arith)) at s, rw (front b rest 2 (omega arith), front b rest 3 (omega arith)) at k)
 
@@ -65,9 +72,9 @@ module _ (b rest : List ℕ) (long : 530 < length b) where
         inr (
           counts_too c,
           inl (
-            (λ r. omega (arith, r.no_more, end_small (b ++ rest) (counts_too c), length-append b rest)),
+            (λ r. omega (arith, all_small (b ++ rest) (counts_too c) r, length-append b rest)),
             e,
           ),
         ),
       )
-  overlong k (inr (h, inr (c, inr (r, p)))) = absurd (omega (arith, r.no_more, end_small b c))
+  overlong k (inr (h, inr (c, inr (r, p)))) = absurd (omega (arith, all_small b c r))

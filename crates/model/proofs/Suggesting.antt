@@ -11,8 +11,8 @@ use Rattle.model.specs.Graph.{Friends, Within, friendships, IsDegree, shared}
 use Rattle.model.specs.Finding.{World, paths, Finds}
 use Rattle.model.specs.Page.{Strict, FirstOf}
 use Rattle.model.specs.Suggestions.{Earlier, Suggestible, Suggestions}
-use Rattle.model.proofs.Counting.{count_some}
 use Rattle.model.proofs.Deciding.{Says, Inside, is_eq, is_lt, is_le, is_true, iff, conj, disj, negated}
+use Rattle.model.proofs.Groups.{shared_some}
 use Rattle.model.proofs.Paging.{Below, page_of, reordered, alike, page_unique, page_exists}
 use Rattle.model.proofs.Walking.{found_member, chain_test}
 
@@ -79,8 +79,7 @@ suggestions_exist w inside v c =
 module _ (w : World) (both : (x y : ℕ) → w.graph.friends x y ≡ w.graph.friends y x) {v m : ℕ} where
   pub suggestible_near : Suggestible w v m → Within w.graph 2 m v
   suggestible_near s =
-      let (x, b, t) = count_some (λ y. w.graph.friends v y && w.graph.friends m y) w.graph.members s.sharing in
-      let (p, q) = (conj (is_true (w.graph.friends v x)) (is_true (w.graph.friends m x))).yes_if t in
+      let (x, b, p, q, n) = shared_some w.graph v m s.sharing in
       (x ∷ v ∷ [], omega arith, (q, (both x v ∙ p, refl)))
 
   pub suggestible_degree : Suggestible w v m → (d : ℕ) → IsDegree w.graph m v (friendships d) → d ≡ 2

@@ -7,7 +7,7 @@ use native.Mathlib.Nat.{zero-add, suc-add}
 use native.Mathlib.Omega.{arith}
 use lib.ListN.{length, length-append}
 use Rattle.model.specs.Answers.{Requirement, Answers}
-use Rattle.model.specs.SchemeBytes.{scheme_of, scheme_needs, Accepted}
+use Rattle.model.specs.SchemeBytes.{scheme_of, scheme_needs, Accepted, longest_scheme}
 use Rattle.model.specs.Network.{fresh}
 use Rattle.model.specs.Requests.{Request, Turn}
 use Rattle.model.specs.Log.{ended, refused, request, place_after}
@@ -143,12 +143,12 @@ module _ (b log more rest : List ℕ) where
   later : List ℕ → List Requirement
   later l = (15, length l ≤ 16384) ∷ []
 
-  same_answer : (number : ℕ) → 1 ≤ number → ReadOf 530 b more → ReadOf 16384 log rest → Answers (start_needs b log) number
+  same_answer : (number : ℕ) → 1 ≤ number → ReadOf longest_scheme b more → ReadOf 16384 log rest → Answers (start_needs b log) number
       → Answers (start_needs (b ++ more) (log ++ rest)) number
   unfolding later
   same_answer number above s l a = go s l (first_part (scheme_needs b) (later log) number (omega arith) a)
     where
-      go : ReadOf 530 b more → ReadOf 16384 log rest → ((0 < number) × Answers (scheme_needs b) number) ⊎ (AllMet (scheme_needs b) × Answers (later log) number)
+      go : ReadOf longest_scheme b more → ReadOf 16384 log rest → ((0 < number) × Answers (scheme_needs b) number) ⊎ (AllMet (scheme_needs b) × Answers (later log) number)
           → Answers (start_needs (b ++ more) (log ++ rest)) number
       go (inl e) y (inl (h, q)) = rw (e, append-nil b) (ahead (scheme_needs b) (later (log ++ rest)) number h q)
       go (inr x) y (inl (h, q)) = ahead (scheme_needs (b ++ more)) (later (log ++ rest)) number h (overlong b more x number q)
@@ -158,7 +158,7 @@ module _ (b log more rest : List ℕ) where
       go (inr x) y (inr (m, q)) = absurd (omega (arith, fits b (met_granted (scheme_needs b) m)))
 
   -- more bytes than every accepted scheme or log has
-  too_long_lem : (530 < length b) ⊎ (16384 < length log) → Answers (start_needs b log) 0 → ⊥
+  too_long_lem : (longest_scheme < length b) ⊎ (16384 < length log) → Answers (start_needs b log) 0 → ⊥
   unfolding later
   too_long_lem (inl h) a = omega (arith, fits b (accepted (first_part (scheme_needs b) (later log) 0 (omega arith) a)))
     where
@@ -167,7 +167,7 @@ module _ (b log more rest : List ℕ) where
       accepted (inr (m, q)) = met_granted (scheme_needs b) m
   too_long_lem (inr h) a = let m = granted_met (start_needs b log) (omega arith) a in omega (arith, m.1.1.1.1.1.0)
 
-  refused_text : (text : List ℕ) → ReadOf 530 b more → ReadOf 16384 log rest → (530 < length b) ⊎ (16384 < length log) → Text b log text → Text (b ++ more) (log ++ rest) text
+  refused_text : (text : List ℕ) → ReadOf longest_scheme b more → ReadOf 16384 log rest → (longest_scheme < length b) ⊎ (16384 < length log) → Text b log text → Text (b ++ more) (log ++ rest) text
   refused_text text s l h (zero, (_, e)) = let z : ◌≡◌ {A = ℕ} 0 1 = cc in absurd (omega arith)
   refused_text text s l h (suc k, (line, start, tail, one, _, _)) = absurd one
   refused_text text s l h (suc k, (line, running i n net, tail, one, _, _)) = absurd (too_long_lem h one.0)
@@ -175,7 +175,7 @@ module _ (b log more rest : List ℕ) where
       (1, (line, over, [], (number, same_answer number above s l a, above, e), f ∙ ap (λ (r : List ℕ). line ++ r) (text_over b log tail (k, p)), (refl, refl)))
 
   -- the text of what was read is the text of the files
-  pub whole_text : (text : List ℕ) → ReadOf 530 b more → ReadOf 16384 log rest → Text b log text → Text (b ++ more) (log ++ rest) text
+  pub whole_text : (text : List ℕ) → ReadOf longest_scheme b more → ReadOf 16384 log rest → Text b log text → Text (b ++ more) (log ++ rest) text
   whole_text text (inl e) (inl f) (k, p) = (k, rw (e, f, append-nil b, append-nil log) p)
   whole_text text (inl e) (inr h) p = refused_text text (inl e) (inr h) (inr h) p
   whole_text text (inr g) l p = refused_text text (inr g) l (inl g) p

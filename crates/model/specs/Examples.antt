@@ -1,9 +1,10 @@
 -- Small examples of the policies and of the requests (docs/reference.md, "Worked examples").
-use Rattle.std.specs.Prelude.{ℕ, ◌≡◌, Bool, true, false, ◌&&◌, ◌||◌, not, cond, List, [], ◌∷◌, eqb}
+use Rattle.std.specs.Prelude.{ℕ, ◌≡◌, Bool, true, false, ◌&&◌, ◌||◌, not, cond, List, [], ◌∷◌, ◌++◌, eqb}
 use Rattle.model.specs.Answers.{Answers}
 use Rattle.model.specs.Bytes.{bit}
 use Rattle.model.specs.Graph.{Graph, Degree, friendships, none, IsDegree}
 use Rattle.model.specs.Policies.{Policy, known, clique, within, state, both, either, owner_only, no_one, everyone, any_side, owner_lesser, owner_greater, Admits}
+use Rattle.model.specs.SchemeBytes.{scheme_of, scheme_needs}
 use Rattle.model.specs.Finding.{World}
 use Rattle.model.specs.Network.{Maps, marked_graph, world}
 use Rattle.model.specs.Requests.{Request, event, set_policy, find, list, view, needs, writes, does, granted}
@@ -12,16 +13,18 @@ use Rattle.model.specs.Log.{Outcome, ended, refused, request, NextAt, place_afte
 use Rattle.model.specs.Calls.{Fresh, puts}
 use Rattle.model.specs.Standard.{standard, standard_bytes}
 
--- 0, 1, 2 are friends of each other; 3 is a friend of 1 and 2; 4 is a friend of 3
+-- 0, 1, 2 are friends of each other; 3 is a friend of 1 and 2; 4 is a friend of 3; 0, 3 and 4 are in group 5
 abbrev pub joins : ℕ → ℕ → Bool
-joins u v = friendship 0 1 || friendship 0 2 || friendship 1 2 || friendship 1 3 || friendship 2 3 || friendship 3 4
+joins u v =
+    friendship 0 1 || friendship 0 2 || friendship 1 2 || friendship 1 3 || friendship 2 3 || friendship 3 4
+    || friendship 0 5 || friendship 3 5 || friendship 4 5
   where
     friendship : ℕ → ℕ → Bool
     friendship a b = (eqb u a && eqb v b) || (eqb u b && eqb v a)
 
 -- friends are in state 3, all others in state 1
 abbrev pub small : Graph
-small = marked_graph 5 joins (λ set u v. bit set (cond (joins u v) 3 1))
+small = marked_graph 6 joins (λ set u v. bit set (cond (joins u v) 3 1)) (λ m. eqb m 5)
 
 -- a policy, owner, accessor, and whether it admits
 abbrev pub Admission : Type 0
@@ -42,15 +45,25 @@ admissions =
     ∷ (known 3, 0, 3, false)
     ∷ (known 9, 0, 1, true)
     ∷ (known 9, 4, 4, true)
+    -- 0 and 4 share the group alone; a group is known to its friends, and by the persons that it shares with others
+    ∷ (known 1, 0, 4, false)
+    ∷ (known 9, 0, 5, true)
+    ∷ (known 2, 5, 1, true)
+    ∷ (known 3, 5, 1, false)
     ∷ (clique 3, 0, 1, true)
     ∷ (clique 3, 1, 3, true)
     ∷ (clique 3, 0, 3, false)
     ∷ (clique 4, 1, 2, false)
     ∷ (clique 2, 3, 4, true)
+    -- with the group
+    ∷ (clique 3, 3, 4, true)
+    ∷ (clique 3, 0, 5, false)
     ∷ (clique 5, 4, 4, true)
     ∷ (within 2, 0, 3, true)
-    ∷ (within 2, 0, 4, false)
-    ∷ (within 3, 0, 4, true)
+    ∷ (within 1, 0, 4, false)
+    -- through the group, and to it
+    ∷ (within 2, 0, 4, true)
+    ∷ (within 2, 1, 5, true)
     ∷ (within 1, 4, 4, true)
     ∷ (state 8 any_side, 1, 0, true)
     ∷ (state 8 any_side, 0, 4, false)
@@ -63,6 +76,29 @@ admissions =
     ∷ (either no_one (known 2), 0, 3, true)
     ∷ (either no_one owner_only, 0, 3, false)
     ∷ []
+
+-- a record of a kind and of a length below 256, and a body
+abbrev pub sixth : ℕ → ℕ → List ℕ → List ℕ
+sixth kind size body = size ∷ 0 ∷ kind ∷ 0 ∷ body
+
+-- the standard scheme for four members is answered so, with these bytes behind it
+abbrev pub Behind : List ℕ → ℕ → Type 0
+Behind more = Answers (scheme_needs (standard_bytes 4 ++ more))
+
+-- what may stand behind the fifth record: nothing, or one record of kind 6, whose bytes are 0 and 1
+pub record SixthRecord : Type 0 where
+  pub none : Behind [] 0
+  pub accepted : Behind (sixth 6 4 (0 ∷ 1 ∷ 0 ∷ 0 ∷ [])) 0
+  pub read : (m : ℕ) → (scheme_of (standard_bytes 4 ++ sixth 6 4 (0 ∷ 1 ∷ 0 ∷ 0 ∷ []))).group m ≡ eqb m 1
+  pub wrong_byte : Behind (sixth 6 4 (0 ∷ 2 ∷ 0 ∷ 0 ∷ [])) 3
+  pub last_byte : Behind (sixth 6 4 (0 ∷ 1 ∷ 0 ∷ 2 ∷ [])) 3
+  pub other_kind : Behind (sixth 7 4 (0 ∷ 1 ∷ 0 ∷ 0 ∷ [])) 1
+  pub short : Behind (sixth 6 3 (0 ∷ 1 ∷ 0 ∷ [])) 1
+  pub long : Behind (sixth 6 5 (0 ∷ 1 ∷ 0 ∷ 0 ∷ 0 ∷ [])) 1
+  pub cut : Behind (sixth 6 4 (0 ∷ 1 ∷ 0 ∷ [])) 1
+  pub cut_head : Behind (4 ∷ 0 ∷ 6 ∷ []) 1
+  pub followed : Behind (sixth 6 4 (0 ∷ 1 ∷ 0 ∷ 0 ∷ 0 ∷ [])) 1
+  pub twice : Behind (sixth 6 4 (0 ∷ 1 ∷ 0 ∷ 0 ∷ []) ++ sixth 6 4 (0 ∷ 1 ∷ 0 ∷ 0 ∷ [])) 1
 
 -- a network of four under the standard scheme: 0 and 1 are friends, 1 and 2 are friends, 3 is a stranger to all;
 -- 1 lets everyone traverse, 3's search admits everyone, 2 shows its recipe to friends of friends
@@ -143,33 +179,39 @@ acquainted u v =
     joined : ℕ → ℕ → Bool
     joined a b = (eqb u a && eqb v b) || (eqb u b && eqb v a)
 
--- everyone's search admits everyone, but for 7's; nobody may be traversed
-abbrev pub eight : World
-eight = record { graph = marked_graph 8 acquainted (λ set u v. false); setting = λ m r. cond (eqb r 0 && not (eqb m 7)) everyone no_one }
+-- everyone's search admits everyone, but for 7's; nobody may be traversed; one is a group, or none of the eight
+abbrev pub eight : ℕ → World
+eight group = record { graph = marked_graph 8 acquainted (λ set u v. false) (λ m. eqb m group); setting = λ m r. cond (eqb r 0 && not (eqb m 7)) everyone no_one }
 
--- who asks, for how many, with so many places; the answer, and the page written
+-- who is a group, who asks, for how many, with so many places; the answer, and the page written
 abbrev pub Suggesting : Type 0
-Suggesting = ℕ × ℕ × ℕ × ℕ × List ℕ
+Suggesting = ℕ × ℕ × ℕ × ℕ × ℕ × List ℕ
 
 abbrev pub AllSuggested : List Suggesting → Type 0
 AllSuggested [] = Unit {0}
-AllSuggested ((v, c, places, answer, page) ∷ rows) =
-    Answers (suggest_needs eight v c places) answer × granted answer (Suggestions eight v c page) (page ≡ []) × AllSuggested rows
+AllSuggested ((group, v, c, places, answer, page) ∷ rows) =
+    Answers (suggest_needs (eight group) v c places) answer × granted answer (Suggestions (eight group) v c page) (page ≡ []) × AllSuggested rows
 
 abbrev pub suggestings : List Suggesting
 suggestings =
     -- 4 and 5 share two friends with 0, and 3 shares one; 1 and 2 are its friends, 6 shares none, 7 is not found
-    (0, 4, 9, 0, 4 ∷ 5 ∷ 3 ∷ [])
-    ∷ (0, 3, 3, 0, 4 ∷ 5 ∷ 3 ∷ [])
-    ∷ (0, 2, 2, 0, 4 ∷ 5 ∷ [])
-    ∷ (0, 1, 1, 0, 4 ∷ [])
-    ∷ (0, 0, 0, 0, [])
+    (8, 0, 4, 9, 0, 4 ∷ 5 ∷ 3 ∷ [])
+    ∷ (8, 0, 3, 3, 0, 4 ∷ 5 ∷ 3 ∷ [])
+    ∷ (8, 0, 2, 2, 0, 4 ∷ 5 ∷ [])
+    ∷ (8, 0, 1, 1, 0, 4 ∷ [])
+    ∷ (8, 0, 0, 0, 0, [])
     -- 7 finds the others
-    ∷ (7, 8, 8, 0, 0 ∷ 4 ∷ 5 ∷ 3 ∷ [])
+    ∷ (8, 7, 8, 8, 0, 0 ∷ 4 ∷ 5 ∷ 3 ∷ [])
     -- 6 before 13, and 13 by the wanted number
-    ∷ (0, 4, 3, 13, [])
-    ∷ (8, 4, 3, 6, [])
-    ∷ (8, 0, 0, 6, [])
+    ∷ (8, 0, 4, 3, 13, [])
+    ∷ (8, 8, 4, 3, 6, [])
+    ∷ (8, 8, 0, 0, 6, [])
+    -- without group 1, 3 shares nobody with 0; without group 2 all three share one
+    ∷ (1, 0, 4, 9, 0, 4 ∷ 5 ∷ [])
+    ∷ (2, 0, 4, 9, 0, 3 ∷ 4 ∷ 5 ∷ [])
+    -- a group is suggested, and asks
+    ∷ (4, 0, 4, 9, 0, 4 ∷ 5 ∷ 3 ∷ [])
+    ∷ (0, 0, 4, 9, 0, 4 ∷ 5 ∷ 3 ∷ [])
     ∷ []
 
 -- what granted requests do to these maps: one pair moves by the side that acts, one setting changes, all else stays

@@ -1,11 +1,12 @@
 -- Friendship graphs: walks, degrees, shared friends and cliques (docs/reference.md, "Policies").
-use Rattle.std.specs.Prelude.{ℕ, zero, suc, ◌+◌, ◌<◌, ◌≤◌, ◌≡◌, Bool, true, false, ◌&&◌, List, [], ◌∷◌, ◌⊎◌, length}
+use Rattle.std.specs.Prelude.{ℕ, zero, suc, ◌+◌, ◌<◌, ◌≤◌, ◌≡◌, Bool, true, false, ◌&&◌, not, List, [], ◌∷◌, ◌⊎◌, length}
 
--- what policies read: how many members there are, who are friends, and whether the state of owner and accessor is in a set
+-- what policies read: how many members there are, who are friends, whether the state of owner and accessor is in a set, and who is a group
 pub record Graph : Type 0 where
   pub members : ℕ
   pub friends : ℕ → ℕ → Bool
   pub in_set : ℕ → ℕ → ℕ → Bool
+  pub group : ℕ → Bool
 
 abbrev pub Friends : Graph → ℕ → ℕ → Type 0
 Friends g u v = g.friends u v ≡ true
@@ -38,9 +39,9 @@ unfoldable pub count : (ℕ → Bool) → ℕ → ℕ
 count f zero = 0
 count f (suc n) = count f n + one (f n)
 
--- the number of members that are friends of both
+-- the number of persons that are friends of both: members that are no groups
 abbrev pub shared : Graph → ℕ → ℕ → ℕ
-shared g u v = count (λ m. g.friends u m && g.friends v m) g.members
+shared g u v = count (λ m. g.friends u m && g.friends v m && not (g.group m)) g.members
 
 -- x is another than each of the list, and a friend of each
 abbrev pub FriendOfAll : Graph → ℕ → List ℕ → Type 0

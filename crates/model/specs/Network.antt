@@ -62,16 +62,17 @@ abbrev pub state_of : Maps → ℕ → ℕ → ℕ
 state_of s u v = cond (eqb u v) 0 (s.pair (min u v) (max u v))
 
 -- the graph in which those pairs are friends that are marked: two members, and nobody is its own friend
-abbrev pub marked_graph : ℕ → (ℕ → ℕ → Bool) → (ℕ → ℕ → ℕ → Bool) → Graph
-marked_graph n marked in_set = record {
+abbrev pub marked_graph : ℕ → (ℕ → ℕ → Bool) → (ℕ → ℕ → ℕ → Bool) → (ℕ → Bool) → Graph
+marked_graph n marked in_set group = record {
   members = n;
   friends = λ u v. ltb u n && ltb v n && not (eqb u v) && marked u v;
   in_set = in_set;
+  group = group;
 }
 
 -- what requests are judged on
 abbrev pub world : Scheme → Maps → World
 world c s = record {
-  graph = marked_graph c.members (λ u v. c.friendly (state_of s u v)) (λ set u v. bit set (state_of s u v));
+  graph = marked_graph c.members (λ u v. c.friendly (state_of s u v)) (λ set u v. bit set (state_of s u v)) c.group;
   setting = λ m r. c.policy (s.setting m r);
 }

@@ -16,6 +16,8 @@ pub record Scheme : Type 0 where
   pub policy : ℕ → Policy
   -- kind 5: the policies that may be chosen for a resource, bit p for policy p
   pub mask : ℕ → ℕ
+  -- kind 6: whether the member is a group and no person
+  pub group : ℕ → Bool
 
 -- what a setting is for
 pub data Resource : Type 0 where

@@ -52,7 +52,7 @@ MaskFits P mask = (1 ≤ mask) × NoBitFrom P mask
 
 -- n members without friendships, all in state 0
 abbrev pub strangers : ℕ → Graph
-strangers n = record { members = n; friends = λ u v. false; in_set = λ set u v. bit set 0 }
+strangers n = record { members = n; friends = λ u v. false; in_set = λ set u v. bit set 0; group = λ m. false }
 
 module _ (b : List ℕ) where
   -- the counts of kind 1
@@ -71,7 +71,7 @@ module _ (b : List ℕ) where
   abbrev pub P : ℕ
   P = byte b 9
 
-  -- where the records of kinds 2 to 5 begin, and where the fifth ends; a body begins 4 bytes behind
+  -- where the records of kinds 2 to 6 begin, the sixth if there is one; a body begins 4 bytes behind
   abbrev pub at2 : ℕ
   at2 = 10
 
@@ -84,8 +84,8 @@ module _ (b : List ℕ) where
   abbrev pub at5 : ℕ
   at5 = at4 + 4 + P * 4
 
-  abbrev pub end : ℕ
-  end = at5 + 4 + (2 + A + I) * 4
+  abbrev pub at6 : ℕ
+  at6 = at5 + 4 + (2 + A + I) * 4
 
   -- byte i of the four of policy p: kind, k, left, right
   abbrev pub field : ℕ → ℕ → ℕ
@@ -98,7 +98,7 @@ module _ (b : List ℕ) where
       let l = policies p in
       l ++ policy_of (λ q. get_or l q no_one) (field p 0) (field p 1) (field p 2) (field p 3) ∷ []
 
-  -- the scheme that the bytes hold
+  -- the scheme that the bytes hold; a byte that is not there reads as 0, so without a sixth record all are persons
   abbrev pub scheme_of : Scheme
   scheme_of = record {
     members = n;
@@ -109,6 +109,7 @@ module _ (b : List ℕ) where
     friendly = λ q. eqb (byte b (at3 + 4 + q)) 1;
     policy = λ p. get_or (policies P) p no_one;
     mask = λ r. four b (at5 + 4 + r * 4);
+    group = λ m. eqb (byte b (at6 + 4 + m)) 1;
   }
 
   -- 2: a head count is outside its range
@@ -119,20 +120,21 @@ module _ (b : List ℕ) where
     pub items : (1 ≤ I) × (I ≤ 16)
     pub policies : (1 ≤ P) × (P ≤ 32)
 
-  -- 1: a later record is cut, of another kind or length, or bytes follow the fifth
+  -- 1: a later record is cut, of another kind or length, or anything but one record of kind 6 follows the fifth
   pub record Records : Type 0 where
     pub moves : RecordAt b at2 2 (S * 2 * A)
     pub friends : RecordAt b at3 3 S
     pub policies : RecordAt b at4 4 (P * 4)
     pub masks : RecordAt b at5 5 ((2 + A + I) * 4)
-    pub no_more : length b ≡ end
+    pub groups : (length b ≡ at6) ⊎ (RecordAt b at6 6 n × (length b ≡ at6 + 4 + n))
 
-  -- 3: a byte inside kinds 2 to 5 breaks what is said of it
+  -- 3: a byte inside kinds 2 to 6 breaks what is said of it
   pub record BytesFit : Type 0 where
     pub moves : (k : ℕ) → k < S * 2 * A → MoveFits S (byte b (at2 + 4 + k))
     pub friends : (q : ℕ) → q < S → byte b (at3 + 4 + q) ≤ 1
     pub policies : (p : ℕ) → p < P → PolicyFits S p (field p 0) (field p 1) (field p 2) (field p 3)
     pub masks : (r : ℕ) → r < 2 + A + I → MaskFits P (four b (at5 + 4 + r * 4))
+    pub groups : (m : ℕ) → m < n → byte b (at6 + 4 + m) ≤ 1
 
   -- 4: state 0 is marked as friends, or the lowest search policy admits an accessor other than the owner among strangers
   pub record StrangersApart : Type 0 where
@@ -145,6 +147,10 @@ module _ (b : List ℕ) where
   -- the scheme check
   abbrev pub scheme_needs : List Requirement
   scheme_needs = (1, RecordAt b 0 1 6) ∷ (2, CountsFit) ∷ (1, Records) ∷ (3, BytesFit) ∷ (4, StrangersApart) ∷ []
+
+-- no accepted scheme has more bytes
+abbrev pub longest_scheme : ℕ
+longest_scheme = 790
 
 -- the scheme is accepted
 abbrev pub Accepted : List ℕ → Type 0

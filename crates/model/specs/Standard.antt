@@ -1,5 +1,5 @@
 -- The standard scheme, as tables and as bytes (docs/reference.md, "The standard scheme").
-use Rattle.std.specs.Prelude.{ℕ, ◌+◌, ◌/◌, ◌%◌, ◌^◌, ◌<◌, ◌≡◌, ◌&&◌, cond, List, [], ◌∷◌, ◌++◌, eqb, get_or}
+use Rattle.std.specs.Prelude.{ℕ, ◌+◌, ◌/◌, ◌%◌, ◌^◌, ◌<◌, ◌≡◌, ◌&&◌, false, cond, List, [], ◌∷◌, ◌++◌, eqb, get_or}
 use Rattle.model.specs.Policies.{Policy, no_one, everyone, owner_only, within, state, either, owner_lesser, owner_greater}
 use Rattle.model.specs.Scheme.{Scheme}
 use Rattle.model.specs.SchemeBytes.{scheme_of}
@@ -74,6 +74,7 @@ standard n = record {
   friendly = λ q. eqb q 3;
   policy = λ p. get_or standard_policies p no_one;
   mask = λ r. get_or standard_masks r 0;
+  group = λ m. false;
 }
 
 -- counts: n members, S = 4, A = 4, I = 3, P = 13
@@ -140,3 +141,4 @@ pub record StandardRead (n : ℕ) : Type 0 where
   pub friends : (q : ℕ) → q < 4 → (scheme_of (standard_bytes n)).friendly q ≡ (standard n).friendly q
   pub policies : (p : ℕ) → (scheme_of (standard_bytes n)).policy p ≡ (standard n).policy p
   pub masks : (r : ℕ) → r < 9 → (scheme_of (standard_bytes n)).mask r ≡ (standard n).mask r
+  pub groups : (m : ℕ) → (scheme_of (standard_bytes n)).group m ≡ (standard n).group m

@@ -1,16 +1,15 @@
--- Who shares a friend with a member: the friends of its friends.
+-- Who shares a friend with a member: the friends of its friends that are persons.
 use Prim.Native.Nat.{ℕ, ◌+◌, ◌<◌, ◌≤◌}
-use mathlib.Core.Path.{◌≡◌, ◌∙◌}
-use mathlib.Core.Bool.{◌&&◌, or-true}
+use mathlib.Core.Path.{◌≡◌, ap, ap₂, ◌∙◌}
+use mathlib.Core.Bool.{Bool, ◌&&◌, not, or-true}
 use mathlib.Core.List.{List}
 use native.Mathlib.Omega.{arith}
 use Rattle.model.specs.Graph.{Graph, Friends}
-use Rattle.model.proofs.Counting.{count_some}
-use Rattle.model.proofs.Deciding.{is_true, conj}
+use Rattle.model.proofs.Groups.{shared_some}
 use Rattle.nearby.proofs.Passing.{Passed, passed_one}
-use Rattle.sets.specs.Rows.{row_bit, FriendRow}
-use Rattle.sets.specs.Sets.{Has, Join, FirstFrom}
-use Rattle.nearby.specs.Near.{Near}
+use Rattle.sets.specs.Rows.{row_bit, FriendRow, PersonRow}
+use Rattle.sets.specs.Sets.{Has, Meet, Join, FirstFrom}
+use Rattle.nearby.specs.Near.{FriendsOf, Near}
 
 -- the set has all friends of u
 pub record Around (g : Graph) (set : List ℕ) (u : ℕ) : Type 0 where
@@ -27,12 +26,16 @@ module _ {g : Graph} (few : g.members ≤ 256) where
       passed_one f record { each = λ k b h. record { has = λ y l o. j.bits y ∙ rw ((p.each k b h).has y l o) } }
       record { has = λ y l o. j.bits y ∙ rw (row.bits y (omega arith) ∙ o) (or-true (row_bit all y)) }
 
-  pub near_all : {friends all : List ℕ} {m : ℕ} → ((x y : ℕ) → g.friends x y ≡ g.friends y x) → Passed friends m (Around g all) → g.members ≤ m → (v : ℕ)
+  pub all_friends : {some all : List ℕ} {m : ℕ} → Passed some m (Around g all) → g.members ≤ m → FriendsOf g some all
+  all_friends p l = record { has = λ x m b c h f. (p.each x (omega arith) h).has m c f }
+
+  -- whoever shares a friend with v is a friend of one of v's friends that are persons
+  pub near_friends : {friends persons some all : List ℕ} → ((x y : ℕ) → g.friends x y ≡ g.friends y x) → PersonRow g persons → Meet friends persons some → FriendsOf g some all
+      → (v : ℕ)
       → FriendRow g v friends
       → Near g v all
-  near_all both p l v own = record {
+  near_friends {friends} {persons} both who meet of v own = record {
     has = λ m b s.
-        let (x, d, t) = count_some (λ y. g.friends v y && g.friends m y) g.members s in
-        let (a, c) = (conj (is_true (g.friends v x)) (is_true (g.friends m x))).yes_if t in
-        (p.each x (omega arith) (own.bits x (omega arith) ∙ a)).has m b (both x m ∙ c);
+        let (x, d, a, c, n) = shared_some g v m s in
+        of.has x m d b (meet.bits x ∙ ap₂ (λ (y z : Bool). y && z) (own.bits x (omega arith) ∙ a) (who.bits x (omega arith) ∙ ap not n)) (both x m ∙ c);
   }

@@ -9,6 +9,7 @@ pub struct Accessor<'a> {
     pub v: usize,
     pub distances: &'a [u16; 256],
     pub rows: &'a [[u64; 4]; 256],
+    pub persons: &'a [u64; 4],
 }
 
 impl<'a> Model for Accessor<'a> {
@@ -21,7 +22,7 @@ impl<'a> Model for Accessor<'a> {
 
     ghost view = { λ a. record { scheme = a.world.now.scheme.bytes.now; network = a.world.now.network.now; v = a.v } };
 
-    ghost invariant = { λ a. (a.v < a.world.now.scheme.counts.members) × Prepared a.world.now.scheme.bytes.now a.world.now.network.now a.v a.distances.now a.rows.now };
+    ghost invariant = { λ a. (a.v < a.world.now.scheme.counts.members) × Prepared a.world.now.scheme.bytes.now a.world.now.network.now a.v a.distances.now a.rows.now a.persons.now };
 }
 
 impl<'a> Accessor<'a> {
@@ -34,8 +35,9 @@ impl<'a> Accessor<'a> {
         v: usize,
         distances: &'a [u16; 256],
         rows: &'a [[u64; 4]; 256],
+        persons: &'a [u64; 4],
     ) -> Accessor<'a>
-        requires { (v < world.now.scheme.counts.members) × Prepared world.now.scheme.bytes.now world.now.network.now v distances.now rows.now }
+        requires { (v < world.now.scheme.counts.members) × Prepared world.now.scheme.bytes.now world.now.network.now v distances.now rows.now persons.now }
         ensures { (result.scheme ≡ world.entry.now.scheme.bytes.now) × (result.network ≡ world.entry.now.network.now) × (result.v ≡ v) }
     {
         Accessor {
@@ -43,6 +45,7 @@ impl<'a> Accessor<'a> {
             v,
             distances,
             rows,
+            persons,
         }
     }
 }

@@ -2,9 +2,10 @@
 
 #![tactic(auto)]
 
-ghost use Rattle.std.specs.Prelude.{◌<◌, ◌≤◌};
+ghost use Rattle.std.specs.Prelude.{◌<◌, ◌≤◌, ◌≡◌, true, false};
 ghost use Rattle.model.specs.Decides.{Decides};
-ghost use Rattle.network.specs.Worlds.{members_in};
+ghost use Rattle.network.specs.Worlds.{members_in, graph_in};
+ghost use Rattle.sets.specs.Rows.{PersonRow};
 ghost use Rattle.prepared.specs.Reading.{Farthest, SomeOfKind};
 ghost use Rattle.prepared.specs.Prepared.{Measured, Prepared, Written};
 
@@ -64,14 +65,31 @@ fn measure(world: &World<'_>, v: usize, distances: &mut [u16; 256])
     }
 }
 
+// Writes the row of persons, where it is read.
+fn write_persons(world: &World<'_>, read: bool, persons: &mut [u64; 4])
+    ensures read { read ≡ true → PersonRow (graph_in world.now) persons.new }
+    ensures unread { read ≡ false → persons.new ≡ persons.old }
+{
+    if read {
+        *persons = rows::persons(world);
+    }
+}
+
 // Computes what depends on accessor v alone, as far as a policy of the scheme reads it.
-pub fn prepare(world: &World<'_>, v: usize, distances: &mut [u16; 256], rows: &mut [[u64; 4]; 256])
+pub fn prepare(
+    world: &World<'_>,
+    v: usize,
+    distances: &mut [u16; 256],
+    rows: &mut [[u64; 4]; 256],
+    persons: &mut [u64; 4],
+)
     requires { v < members_in world.now }
-    ensures prepared { Prepared world.now.scheme.bytes.now world.now.network.now v distances.new rows.new }
-    ensures written { Written world.now.scheme.bytes.now world.now.network.now v distances.old rows.old distances.new rows.new }
+    ensures prepared { Prepared world.now.scheme.bytes.now world.now.network.now v distances.new rows.new persons.new }
+    ensures written { Written world.now.scheme.bytes.now world.now.network.now v distances.old rows.old persons.old distances.new rows.new persons.new }
 {
     measure(world, v, distances);
     let some = kinds_of(&world.scheme, 0, world.scheme.counts.policies);
+    write_persons(world, some.known, persons);
     if some.clique {
         row_table::fill_rows(world, rows);
     } else if some.known {

@@ -8,7 +8,7 @@ ghost use Rattle.refusals.specs.Numbers.{answer_of};
 // The refusals in the order of their numbers.
 #[derive(Clone, Copy, Debug, PartialEq, Eq)]
 pub enum Refusal {
-    // a record of the scheme is missing, cut, of another kind or length, or bytes follow the fifth
+    // a record of the scheme is missing, cut, of another kind or length, or bytes follow the last
     Records,
     // a count of the scheme is outside its range
     Counts,

@@ -30,7 +30,13 @@ pub fn of_prepared(accessor: &Accessor<'_>, u: usize, asked: Kinds) -> Relation
     ensures { Related (graph_asked accessor.now) u accessor.now.v (SomeWithin accessor.now.scheme 0 (P accessor.now.scheme)) (asked.known ≡ true) (asked.clique ≡ true) result }
 {
     let acquaintance = if asked.known {
-        known::between(accessor.world, accessor.rows, u, accessor.v)
+        known::between(
+            accessor.world,
+            accessor.rows,
+            accessor.persons,
+            u,
+            accessor.v,
+        )
     } else {
         Acquaintance::Close
     };

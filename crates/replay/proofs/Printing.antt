@@ -5,6 +5,7 @@ use mathlib.Core.List.{List, ◌++◌}
 use native.Mathlib.Omega.{arith}
 use lib.ListN.{length, take, length-append}
 use lib.Seq.{length-take-le}
+use Rattle.model.specs.SchemeBytes.{longest_scheme}
 use Rattle.model.specs.Text.{start, over, Prints, ReadOf, Text}
 use Rattle.model.proofs.Texts.{Bounded, bounded, prints_then, whole_text}
 use Rattle.fresh_start.specs.Stands.{state_of, Sized, Ready, Moment}
@@ -95,6 +96,6 @@ ended b log net Over count text o p = p
 pub all_sent : {before now : Option (List ℕ)} {b log net : List ℕ} {here : Stand} {written : ℕ} → Sent before now b log net here written → IsOver here
     → Printed b log (Ok written) × Handed before now b log (Ok written)
 all_sent {before} {now} {b} {log} {net} {here} {written} s o =
-    let text : (more rest : List ℕ) → ReadOf 530 b more → ReadOf 16384 log rest → Text (b ++ more) (log ++ rest) s.text =
+    let text : (more rest : List ℕ) → ReadOf longest_scheme b more → ReadOf 16384 log rest → Text (b ++ more) (log ++ rest) s.text =
     λ more rest m r. whole_text b log more rest s.text m r (s.count, ended b log net here s.count s.text o s.prints) in
     ((s.text, s.bytes, text), (s.text, s.given, s.bytes, text))

@@ -2,6 +2,7 @@
 use Rattle.std.specs.Prelude.{ℕ, zero, suc, ◌+◌, ◌≤◌, ◌≡◌, List, [], ◌++◌, length, take, Option, Result, Ok, Err}
 use Rattle.std.specs.Io.KnownBytes.{Appends}
 use Rattle.files.specs.Transfers.{Given}
+use Rattle.model.specs.SchemeBytes.{longest_scheme}
 use Rattle.model.specs.Text.{State, start, Prints, TextFrom, Text, ReadOf}
 use Rattle.fresh_start.specs.Stands.{state_of, Ready, Moment, Stepped}
 use Rattle.fresh_start.specs.declared.Stand.{Stand}
@@ -45,7 +46,7 @@ Adds before count (Err cut) = cut.written ≡ before
 
 -- the text of files of any length, of which this was read
 abbrev pub TextRead : List ℕ → List ℕ → List ℕ → Type 0
-TextRead b log text = (more rest : List ℕ) → ReadOf 530 b more → ReadOf 16384 log rest → Text (b ++ more) (log ++ rest) text
+TextRead b log text = (more rest : List ℕ) → ReadOf longest_scheme b more → ReadOf 16384 log rest → Text (b ++ more) (log ++ rest) text
 
 -- so many bytes were handed over to be written as the text has, of files of any length: where what was read is longer than every accepted
 -- scheme or log, it has the whole file's text; or, where a write failed, the bytes handed over before it are the text's first lines

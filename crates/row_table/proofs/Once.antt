@@ -1,4 +1,4 @@
--- A graph has one friend row for each member.
+-- A graph has one friend row for each member, and one row of persons.
 use Prim.Native.Nat.{ℕ, ◌+◌, ◌*◌, ◌/◌, ◌%◌, ◌<◌}
 use mathlib.Core.Path.{◌≡◌, sym, ap, ◌∙◌}
 use mathlib.Core.List.{List, []}
@@ -9,13 +9,13 @@ use lib.Seq.{ext_get_or}
 use Rattle.model.specs.Bytes.{bit}
 use Rattle.model.specs.Graph.{Graph}
 use Rattle.model.proofs.Bits.{set_ext, below_no_bit}
-use Rattle.sets.specs.Rows.{row_bit, FriendRow}
+use Rattle.sets.specs.Rows.{row_bit, FriendRow, PersonRow}
 use Rattle.sets.proofs.Words.{Words}
 use Rattle.row_table.specs.Filled.{RowsFilled}
 
--- the bits of member u's row fix its four words
-pub friend_row_once : (g : Graph) (u : ℕ) (a b : List ℕ) → Words a → Words b → FriendRow g u a → FriendRow g u b → a ≡ b
-friend_row_once g u a b v w f h = ext_get_or 0 a b (v.four ∙ sym w.four) (λ i l. word i (omega (arith, v.four)))
+-- the bits of a row fix its four words
+same_row : (a b : List ℕ) → Words a → Words b → ((m : ℕ) → m < 256 → row_bit a m ≡ row_bit b m) → a ≡ b
+same_row a b v w same = ext_get_or 0 a b (v.four ∙ sym w.four) (λ i l. word i (omega (arith, v.four)))
   where
     here : (row : List ℕ) (i p : ℕ) → p < 64 → bit (get_or row i 0) p ≡ row_bit row (i * 64 + p)
     here row i p l =
@@ -26,7 +26,13 @@ friend_row_once g u a b v w f h = ext_get_or 0 a b (v.four ∙ sym w.four) (λ i
     word : (i : ℕ) → i < 4 → get_or a i 0 ≡ get_or b i 0
     word i l =
         set_ext 64 (get_or a i 0) (get_or b i 0) (below_no_bit 64 (get_or a i 0) (v.fits i)) (below_no_bit 64 (get_or b i 0) (w.fits i))
-        (λ p k. here a i p k ∙ f.bits (i * 64 + p) (omega arith) ∙ sym (h.bits (i * 64 + p) (omega arith)) ∙ sym (here b i p k))
+        (λ p k. here a i p k ∙ same (i * 64 + p) (omega arith) ∙ sym (here b i p k))
+
+pub friend_row_once : (g : Graph) (u : ℕ) (a b : List ℕ) → Words a → Words b → FriendRow g u a → FriendRow g u b → a ≡ b
+friend_row_once g u a b v w f h = same_row a b v w (λ m l. f.bits m l ∙ sym (h.bits m l))
+
+pub person_row_once : (g : Graph) (a b : List ℕ) → Words a → Words b → PersonRow g a → PersonRow g b → a ≡ b
+person_row_once g a b v w f h = same_row a b v w (λ m l. f.bits m l ∙ sym (h.bits m l))
 
 -- the table of all rows leaves no two results
 pub rows_filled_once : (g : Graph) (before after after' : List (List ℕ)) → ((m : ℕ) → Words (get_or after m [])) → ((m : ℕ) → Words (get_or after' m []))

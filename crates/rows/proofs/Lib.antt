@@ -1,1 +1,2 @@
 pub mod RowBits
+pub mod PersonFlags

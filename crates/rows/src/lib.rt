@@ -1,10 +1,10 @@
-// Friend rows.
+// Rows of members: a member's friends, and the persons.
 
 #![tactic(auto)]
 
-ghost use Rattle.std.specs.Prelude.{◌+◌, ◌<◌, ◌≤◌};
+ghost use Rattle.std.specs.Prelude.{ℕ, ◌+◌, ◌<◌, ◌≤◌, ◌≡◌, eqb, get_or};
 ghost use Rattle.network.specs.Worlds.{members_in, graph_in};
-ghost use Rattle.sets.specs.Rows.{FriendRow};
+ghost use Rattle.sets.specs.Rows.{row_bit, FriendRow, PersonRow};
 ghost use Rattle.rows.specs.Words.{FirstBits};
 
 use network::World;
@@ -67,4 +67,25 @@ pub fn friend_row(world: &World<'_>, u: usize) -> [u64; 4]
     ensures { FriendRow (graph_in world.now) u result }
 {
     array::from_fn(|w| word(world, u, 64 * w))
+}
+
+// A row of the members that have a flag.
+fn packed(flags: &[u8; 256]) -> [u64; 4]
+    requires { (m : ℕ) → get_or flags.now m 0 ≤ 1 }
+    ensures { (m : ℕ) → m < 256 → row_bit result m ≡ eqb (get_or flags.now m 0) 1 }
+{
+    array::from_fn(|w| friend_flags::word(flags, 64 * w))
+}
+
+// Everybody but the groups; the bits at and above the number of members are set too.
+pub fn persons(world: &World<'_>) -> [u64; 4]
+    ensures { PersonRow (graph_in world.now) result }
+{
+    let groups = world.scheme.groups();
+    if groups.is_empty() {
+        return [!0; 4];
+    }
+    let mut flags = [1; 256];
+    friend_flags::mark(1 << 0, groups, &mut flags); // 0 is a person
+    packed(&flags)
 }

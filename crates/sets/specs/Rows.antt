@@ -1,5 +1,5 @@
 -- Rows: a set of members as 256 bits in four words of 64.
-use Rattle.std.specs.Prelude.{ℕ, ◌/◌, ◌%◌, ◌≤◌, ◌<◌, ◌≡◌, Bool, false, List, [], get_or}
+use Rattle.std.specs.Prelude.{ℕ, ◌/◌, ◌%◌, ◌≤◌, ◌<◌, ◌≡◌, Bool, false, not, List, [], get_or}
 use Rattle.model.specs.Bytes.{bit}
 use Rattle.model.specs.Graph.{Graph}
 
@@ -15,3 +15,7 @@ pub record FriendRow (g : Graph) (u : ℕ) (row : List ℕ) : Type 0 where
 -- the rows of all members
 abbrev pub AllRows : Graph → List (List ℕ) → Type 0
 AllRows g rows = (m : ℕ) → m < g.members → FriendRow g m (get_or rows m [])
+
+-- bit m is set exactly where m is no group
+pub record PersonRow (g : Graph) (row : List ℕ) : Type 0 where
+  pub bits : (m : ℕ) → m < 256 → row_bit row m ≡ not (g.group m)

@@ -2,7 +2,7 @@
 use Rattle.std.specs.Prelude.{ℕ, ◌+◌, ◌%◌, ◌≤◌, ◌<◌, ◌≡◌, Bool, true, false, ◌&&◌, ◌||◌, List, [], get_or, Option, None, Some, ◌↔◌, length}
 use Rattle.model.specs.Bytes.{bit}
 use Rattle.model.specs.Graph.{Graph, count, shared}
-use Rattle.sets.specs.Rows.{row_bit, FriendRow}
+use Rattle.sets.specs.Rows.{row_bit, FriendRow, PersonRow}
 
 -- member m's row is written; all others are as they were
 pub record RowPut (before : List (List ℕ)) (m : ℕ) (row : List ℕ) (after : List (List ℕ)) : Type 0 where
@@ -42,7 +42,8 @@ FirstMember set from None = FirstFrom set from 256
 pub record NotEmpty (set : List ℕ) (answer : Bool) : Type 0 where
   pub tells : (answer ≡ true) ↔ ((m : ℕ) × Has set m)
 
--- how many bits two rows have in common: the number of shared friends, where they are friend rows of a graph of at most 256 members
-pub record CommonBits (a b : List ℕ) (r : ℕ) : Type 0 where
-  pub counted : r ≡ count (λ m. row_bit a m && row_bit b m) 256
-  pub shares : (g : Graph) (u v : ℕ) → g.members ≤ 256 → FriendRow g u a → FriendRow g v b → r ≡ shared g u v
+-- how many bits three rows have in common: the number of shared friends, where they are friend rows of a graph of at most 256 members
+-- and its row of persons
+pub record CommonBits (a b c : List ℕ) (r : ℕ) : Type 0 where
+  pub counted : r ≡ count (λ m. row_bit a m && row_bit b m && row_bit c m) 256
+  pub shares : (g : Graph) (u v : ℕ) → g.members ≤ 256 → FriendRow g u a → FriendRow g v b → PersonRow g c → r ≡ shared g u v

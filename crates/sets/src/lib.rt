@@ -58,16 +58,20 @@ pub fn not_empty(set: [u64; 4]) -> bool
     set != [0; 4]
 }
 
-// How many bits two words have in common.
-fn common(x: u64, y: u64) -> u32
-    ensures { (result ≡ count (λ m. bit x m && bit y m) 64) × (result ≤ 64) }
+// How many bits three words have in common.
+fn common(x: u64, y: u64, z: u64) -> u32
+    ensures { (result ≡ count (λ m. bit x m && bit y m && bit z m) 64) × (result ≤ 64) }
 {
-    (x & y).count_ones()
+    (x & y & z).count_ones()
 }
 
-// How many bits two rows have in common.
-pub fn shared(a: [u64; 4], b: [u64; 4]) -> u32
-    ensures { CommonBits a b result }
+// How many bits three rows have in common: for the friends of two members and the persons, how many friends they share.
+pub fn shared(a: [u64; 4], b: [u64; 4], c: [u64; 4]) -> u32
+    ensures { CommonBits a b c result }
 {
-    a.iter().zip(&b).map(|(x, y)| common(*x, *y)).sum()
+    a.iter()
+        .zip(&b)
+        .zip(&c)
+        .map(|((x, y), z)| common(*x, *y, *z))
+        .sum()
 }

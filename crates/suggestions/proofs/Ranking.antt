@@ -14,7 +14,7 @@ use Rattle.suggestions.specs.Ranks.{Sources, Ranked, RanksBelow}
 pub rank_none : {w : World} {v m : ℕ} → (Suggestible w v m → ⊥) → Ranked w v m 0
 rank_none n = record { may = λ l. absurd (omega arith); counted = λ s. absurd (n s) }
 
-module _ {w : World} {v m : ℕ} {found near friends : List ℕ} {rows : Option (Bor (List (List ℕ)))} (r : Sources w v found near friends rows) (few : w.graph.members ≤ 256) (b : m < w.graph.members) where
+module _ {w : World} {v m : ℕ} {found near friends persons : List ℕ} {rows : Option (Bor (List (List ℕ)))} (r : Sources w v found near friends persons rows) (few : w.graph.members ≤ 256) (b : m < w.graph.members) where
   friend : row_bit friends m ≡ w.graph.friends v m
   friend = r.own.bits m (omega arith)
 
@@ -31,10 +31,10 @@ module _ {w : World} {v m : ℕ} {found near friends : List ℕ} {rows : Option 
       → t ≡ row_bit friends m
       → t ≡ false
       → FriendRow w.graph m row
-      → CommonBits friends row k
+      → CommonBits friends row persons k
       → Ranked w v m k
   rank_shared f o e t q c =
-      let h = c.shares w.graph v m few r.own q in
+      let h = c.shares w.graph v m few r.own q r.person_row in
       record {
         may = λ l. record { found = (r.all.exactly m b).0 (omega arith); other = o; no_friend = λ y. false≢true (sym t ∙ e ∙ friend ∙ y); sharing = omega arith };
         counted = λ s. h;

@@ -7,18 +7,19 @@ use Rattle.model.specs.Suggestions.{Suggestible}
 use Rattle.finding.specs.Everyone.{Everyone}
 use Rattle.nearby.specs.Near.{Near}
 use Rattle.network.specs.Worlds.{world_in}
-use Rattle.sets.specs.Rows.{FriendRow, AllRows}
+use Rattle.sets.specs.Rows.{FriendRow, PersonRow, AllRows}
 use Rattle.suggestions.specs.declared.Sources.{Sources as Held}
 
--- what v's ranks are read from: whom v finds, who is near, v's friends, and a table of all rows, if there is one
-pub record Sources (w : World) (v : ℕ) (found near friends : List ℕ) (rows : Option (Bor (List (List ℕ)))) : Type 0 where
+-- what v's ranks are read from: whom v finds, who is near, v's friends, the persons, and a table of all rows, if there is one
+pub record Sources (w : World) (v : ℕ) (found near friends persons : List ℕ) (rows : Option (Bor (List (List ℕ)))) : Type 0 where
   pub all : Everyone w v found
   pub around : Near w.graph v near
   pub own : FriendRow w.graph v friends
+  pub person_row : PersonRow w.graph persons
   pub table : IfSome rows (λ r. AllRows w.graph r.now)
 
 abbrev pub Sound : Held → List ℕ → Type 0
-Sound s found = Sources (world_in s.world) s.v found s.near s.friends s.rows
+Sound s found = Sources (world_in s.world) s.v found s.near s.friends s.persons s.rows
 
 -- r is how many friends m shares with v; 0 where m may not be suggested to v
 pub record Ranked (w : World) (v m r : ℕ) : Type 0 where

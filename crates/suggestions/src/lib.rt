@@ -10,13 +10,14 @@ ghost use Rattle.suggestions.specs.Answered.{SuggestCalled};
 use network::World;
 use refusals::Refusal;
 
-// What v's ranks are read from, beside whom v finds: who is near, v's friends, and a table of all rows, if there is one.
+// What v's ranks are read from, beside whom v finds: who is near, v's friends, the persons, and a table of all rows, if there is one.
 #[derive(Clone, Copy)]
 struct Sources<'a> {
     world: World<'a>,
     v: usize,
     near: [u64; 4],
     friends: [u64; 4],
+    persons: [u64; 4],
     rows: Option<&'a [[u64; 4]; 256]>,
 }
 
@@ -39,7 +40,11 @@ impl Sources<'_> {
         if !sets::has(self.near, m) {
             return 0;
         }
-        sets::shared(self.friends, row_table::row(&self.world, self.rows, m))
+        sets::shared(
+            self.friends,
+            row_table::row(&self.world, self.rows, m),
+            self.persons,
+        )
     }
 
     // Writes the ranks of all members.
@@ -59,17 +64,20 @@ fn write_ranks_for(world: &World<'_>, v: usize, ranks: &mut [u32; 256])
     requires { (v < members_in world.now) × RanksBelow (world_in world.now) v 0 ranks.old }
     ensures { RanksBelow (world_in world.now) v (members_in world.now) ranks.new }
 {
-    let found = checks::everyone(world, v);
+    let mut found = [0u16; 256];
+    checks::everyone(world, v, &mut found);
     let friends = rows::friend_row(world, v);
-    let near = nearby::members(world, friends);
+    let persons = rows::persons(world);
+    let near = nearby::members(world, friends, persons);
     let sources = Sources {
         world: *world,
         v,
         near,
         friends,
+        persons,
         rows: None,
     };
-    if sets::shared(near, near) <= 32 {
+    if sets::shared(near, near, near) <= 32 {
         sources.write_ranks(&found, ranks);
         return;
     }

@@ -1,3 +1,4 @@
 pub mod Accepting
+pub mod Grouped
 pub mod Places
 pub mod Ranges

@@ -3,7 +3,8 @@ use Rattle.std.specs.Prelude.{ℕ, ◌≤◌, List, [], ◌∷◌, ◌⊎◌}
 use Rattle.std.proofs.Common.{arith, ap, inl, inr}
 use Rattle.std.proofs.Props.{props}
 use Rattle.std.specs.Coded.{le_prop}
-use Rattle.model.specs.SchemeBytes.{MoveFits, PolicyFits, MaskFits, Records, BytesFit, S, scheme_needs, Accepted}
+use Rattle.model.specs.Bytes.{RecordAt}
+use Rattle.model.specs.SchemeBytes.{MoveFits, PolicyFits, MaskFits, Records, BytesFit, S, n, scheme_needs, Accepted}
 use Rattle.model.specs.Answers.{Requirement, Answers}
 use Rattle.model.proofs.Answering.{Numbered}
 use Rattle.tables.specs.Read.{CountsOf, InRange, ReadAs}
@@ -38,6 +39,7 @@ bytes_once b l x y = λ i. record {
   friends = λ q h. le_prop (x.friends q h) (y.friends q h) i;
   policies = λ p h. policy_once (S b) p _ _ _ _ (x.policies p h) (y.policies p h) i;
   masks = λ r h. mask_once _ _ (x.masks r h) (y.masks r h) i;
+  groups = λ m h. le_prop (x.groups m h) (y.groups m h) i;
 }
 
 pub counts_once : (b : List ℕ) (c : Summary) → IsProp (CountsOf b c)
@@ -46,8 +48,17 @@ counts_once b c = Prim.hlevel props
 range_once : (c : Summary) → IsProp (InRange c)
 range_once c = Prim.hlevel props
 
+record_once : (b : List ℕ) (k kind size : ℕ) → IsProp (RecordAt b k kind size)
+record_once b k kind size = Prim.hlevel props
+
 records_once : (b : List ℕ) → IsProp (Records b)
-records_once b = Prim.hlevel props
+records_once b x y = λ i. record {
+  moves = record_once b _ _ _ x.moves y.moves i;
+  friends = record_once b _ _ _ x.friends y.friends i;
+  policies = record_once b _ _ _ x.policies y.policies i;
+  masks = record_once b _ _ _ x.masks y.masks i;
+  groups = apart (Prim.hlevel props) (Prim.hlevel props) (λ e h. omega (arith, e, h.1)) x.groups y.groups i;
+}
 
 pub read_once : (b : List ℕ) (c : Summary) → IsProp (ReadAs b c)
 read_once b c x y = λ i. record {

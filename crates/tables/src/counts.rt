@@ -19,7 +19,7 @@ pub struct Summary {
 
 impl Summary {
     ghost use Rattle.std.specs.Prelude.{◌≡◌, List, ℕ, ◌+◌, ◌≤◌};
-    ghost use Rattle.model.specs.SchemeBytes.{at3, at4, at5};
+    ghost use Rattle.model.specs.SchemeBytes.{at3, at4, at5, at6};
     ghost use Rattle.tables.specs.Read.{CountsOf};
 
     // Where the body of kind 3 begins.
@@ -41,6 +41,13 @@ impl Summary {
         ensures { (result ≤ 426) × ((b : List ℕ) → CountsOf b self → result ≡ at5 b + 4) }
     {
         self.policies_at() + 4 * self.policies + 4
+    }
+
+    // Where the body of kind 6 begins, if there is one.
+    pub fn groups_at(self) -> usize
+        ensures { (result ≤ 534) × ((b : List ℕ) → CountsOf b self → result ≡ at6 b + 4) }
+    {
+        self.masks_at() + 4 * self.resources() + 4
     }
 
     // How many resources there are.

@@ -14,7 +14,7 @@ pub struct Scheme<'a> {
 
 impl Scheme<'_> {
     ghost use Rattle.std.specs.Prelude.{◌≡◌, ◌+◌, ◌<◌, ◌≤◌};
-    ghost use Rattle.tables.specs.Schemes.{scheme_in, StateOf};
+    ghost use Rattle.tables.specs.Schemes.{scheme_in, StateOf, GroupBytes};
 
     // The next state for a state, a side and a primitive, where one is defined.
     pub fn next_state(&self, state: usize, side: usize, primitive: usize) -> Option<u8>
@@ -33,5 +33,12 @@ impl Scheme<'_> {
         ensures { (result ≡ (scheme_in self.now).mask r) × (1 ≤ result) }
     {
         records::four(self.bytes, self.counts.masks_at() + r * 4)
+    }
+
+    // A byte for each member, 1 for a group; none where there is no sixth record.
+    pub fn groups(&self) -> &[u8]
+        ensures { GroupBytes self.now result.now }
+    {
+        &self.bytes[self.counts.groups_at().min(self.bytes.len())..]
     }
 }

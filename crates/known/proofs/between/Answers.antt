@@ -16,5 +16,5 @@ returns c =
     let few : (graph_of w.scheme.bytes.now w.network.now).members ≤ 256 = omega arith in (
       c.if-u-v.false,
       e ∙ sym c.has.ensures ∙ c.if-has.false,
-      c.shared.ensures.shares _ c.args.u c.args.v few c.friend_row-of_u.ensures c.requires.2,
+      c.shared.ensures.shares _ c.args.u c.args.v few c.friend_row-of_u.ensures c.requires.2 c.requires.3,
     )

@@ -1,7 +1,9 @@
 use Rattle.std.proofs.Common.{arith, rules, ◌∙◌}
-use Rattle.model.proofs.Deciding.{said_no}
+use Rattle.model.specs.SchemeBytes.{P}
+use Rattle.model.proofs.Deciding.{says, is_so, is_not, said_yes, said_no}
 use Rattle.network.proofs.Reading.{ready_range}
 use Rattle.sets.proofs.Rows.{row_put}
+use Rattle.prepared.specs.Reading.{SomeOfKind}
 use Rattle.prepared.proofs.Preparing.{near}
 use Rattle.prepared.proofs.Reaching.{some_more}
 use Rattle.prepared.proofs.prepare.Goals as goal
@@ -9,12 +11,30 @@ use Rattle.prepared.proofs.prepare.Goals as goal
 pub returns-then-some-clause-prepared : goal.returns-then-some-clause-prepared
 returns-then-some-clause-prepared c =
     let e = c.args.world.now.ready.counts.members in
+    let d = c.args.world.now.ready.counts.policies in
     record {
       distances_long = c.measure.array_long;
       rows_long = c.fill_rows.array_long;
       near = near c.measure.ensures;
       own_row = λ s. c.fill_rows.ensures.each _ (omega arith);
       all_rows = λ s. c.fill_rows.ensures.each;
+      person_row = λ s. c.write_persons.ensures.read (is_so (says c.kinds_of-some.ensures.known) (some_more 4 _ 0 _ _ (omega arith) s));
+    }
+
+pub returns-then-some-clause-written : goal.returns-then-some-clause-written
+returns-then-some-clause-written c =
+    let e = c.args.world.now.ready.counts.policies in
+    let clique : SomeOfKind 5 c.args.world.now.scheme.bytes.now 0 (P c.args.world.now.scheme.bytes.now) = some_more 5 _ 0 _ _ (omega arith) (said_yes c.if-some.true c.kinds_of-some.ensures.clique) in
+    record {
+      limit = c.measure.ensures.limit;
+      farthest = c.measure.ensures.farthest;
+      distances_read = c.measure.ensures.read;
+      distances_unread = c.measure.ensures.unread;
+      rows_all = λ s. c.fill_rows.ensures;
+      row_own = λ n. absurd (n clique);
+      rows_unread = λ n. absurd (n clique);
+      persons_read = λ s. c.write_persons.ensures.read (is_so (says c.kinds_of-some.ensures.known) (some_more 4 _ 0 _ _ (omega arith) s));
+      persons_unread = λ n. c.write_persons.ensures.unread (is_not (says c.kinds_of-some.ensures.known) (λ s. n (some_more 4 _ 0 _ _ (omega arith) s)));
     }
 
 pub returns-then-some-2-clause-prepared : goal.returns-then-some-2-clause-prepared
@@ -27,6 +47,7 @@ returns-then-some-2-clause-prepared c =
       rows_long = p.long ∙ c.told-rows;
       near = near c.measure.ensures;
       own_row = λ s. rw p.here c.friend_row.ensures;
+      person_row = λ s. c.write_persons.ensures.read c.if-some-2.true;
       all_rows = λ s. absurd (said_no c.if-some.false c.kinds_of-some.ensures.clique (some_more 5 _ 0 _ _ (omega arith) s));
     }
 
@@ -42,6 +63,8 @@ returns-then-some-2-clause-written c =
       rows_all = search rules;
       row_own = λ a s. rw p.here p;
       rows_unread = search rules;
+      persons_read = λ s. c.write_persons.ensures.read c.if-some-2.true;
+      persons_unread = λ n. search rules;
     }
 
 pub returns-else-some-2-clause-prepared : goal.returns-else-some-2-clause-prepared
@@ -52,5 +75,6 @@ returns-else-some-2-clause-prepared c =
       rows_long = c.told-rows;
       near = near c.measure.ensures;
       own_row = λ s. absurd (said_no c.if-some-2.false c.kinds_of-some.ensures.known (some_more 4 _ 0 _ _ (omega arith) s));
+      person_row = λ s. absurd (said_no c.if-some-2.false c.kinds_of-some.ensures.known (some_more 4 _ 0 _ _ (omega arith) s));
       all_rows = λ s. absurd (said_no c.if-some.false c.kinds_of-some.ensures.clique (some_more 5 _ 0 _ _ (omega arith) s));
     }

@@ -12,6 +12,9 @@ returns-in-Known c = known_told c.requires.0 c.in-Known.k _ c.in-Known.is (rw c.
 pub returns-else-u-v : goal.returns-else-u-v
 returns-else-u-v c = rw c.from-else-u-v.ensures (clique_told c.requires.0 c.in-Clique.k c.in-Clique.is c.if-u-v.false)
 
+pub returns-in-State : goal.returns-in-State
+returns-in-State c = rw c.in-State.is c.in_state.ensures
+
 pub returns-in-Both : goal.returns-in-Both
 returns-in-Both c =
     let l : c.offered.result ≡ bit c.args.set c.in-Both.left = c.offered.ensures ∙ ap (bit c.args.set) c.from-in-Both.ensures in

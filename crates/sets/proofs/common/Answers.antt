@@ -8,5 +8,6 @@ pub returns : goal.returns
 returns c =
     let x = c.args.x in
     let y = c.args.y in
-    let e = ones_common x y c.ranges.x.fits c.ranges.y.fits in
-    (e, omega (arith, e, count_le (λ (m : ℕ). bit x m && bit y m) 64))
+    let z = c.args.z in
+    let e = ones_common x y z c.ranges.x.fits c.ranges.y.fits c.ranges.z.fits in
+    (e, omega (arith, e, count_le (λ (m : ℕ). bit x m && bit y m && bit z m) 64))

@@ -6,8 +6,8 @@ use Rattle.sets.proofs.shared.Goals as goal
 
 pub sum-requires-clause-fits : goal.sum-requires-clause-fits
 sum-requires-clause-fits c =
-    fits_from_yields_list c.map.result _ (YieldsList-from_map _ in_common (YieldsList-from_zip (YieldsList-from_slice c.args.a cc) (YieldsList-from_slice c.args.b cc)) c.map.ensures.closure (λ x r q k. search (rules, tests)))
-    (few_common c.args.a c.args.b (search rules) (search rules))
+    fits_from_yields_list c.map.result _ (YieldsList-from_map _ in_common (YieldsList-from_zip (YieldsList-from_zip (YieldsList-from_slice c.args.a cc) (YieldsList-from_slice c.args.b cc)) (YieldsList-from_slice c.args.c cc)) c.map.ensures.closure (λ x r q k. search (rules, tests)))
+    (few_common c.args.a c.args.b c.args.c (search rules) (search rules) (search rules))
 
 pub returns : goal.returns
-returns c = rw (sum_from_yields_List c.map.result c.sum.result c.sum.ensures.ran (YieldsList-from_map _ in_common (YieldsList-from_zip (YieldsList-from_slice c.args.a cc) (YieldsList-from_slice c.args.b cc)) c.map.ensures.closure (λ x r q k. search (rules, tests)))) (words_common c.args.a c.args.b (search rules) (search rules))
+returns c = rw (sum_from_yields_List c.map.result c.sum.result c.sum.ensures.ran (YieldsList-from_map _ in_common (YieldsList-from_zip (YieldsList-from_zip (YieldsList-from_slice c.args.a cc) (YieldsList-from_slice c.args.b cc)) (YieldsList-from_slice c.args.c cc)) c.map.ensures.closure (λ x r q k. search (rules, tests)))) (words_common c.args.a c.args.b c.args.c (search rules) (search rules) (search rules))

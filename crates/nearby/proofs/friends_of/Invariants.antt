@@ -3,7 +3,7 @@ use Rattle.network.specs.Worlds.{graph_in}
 use Rattle.sets.specs.Members.{MembersFrom}
 use Rattle.nearby.proofs.Passing.{Passed}
 use Rattle.nearby.proofs.Nearby.{Around}
-use Rattle.nearby.proofs.members.Given as goal
+use Rattle.nearby.proofs.friends_of.Given as goal
 
 abbrev pub invariant-loop-m : goal.invariant-loop-m
-invariant-loop-m l = (next : ℕ) × MembersFrom l.fn.friends next l.m-iterator × Passed l.fn.friends next (Around (graph_in l.world) l.all)
+invariant-loop-m l = (next : ℕ) × MembersFrom l.fn.some next l.m-iterator × Passed l.fn.some next (Around (graph_in l.world) l.all)
