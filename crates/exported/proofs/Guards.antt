@@ -1,13 +1,16 @@
 -- What a caller learns of each exported function is the specification, and needs no `requires`.
-use Prim.Native.Nat.{ℕ}
+use Prim.Native.Nat.{ℕ, ◌+◌}
 use mathlib.Core.Path.{◌≡◌, refl}
 use mathlib.Core.List.{List, []}
+use lib.Dec.{eqb}
 use lib.ListN.{length, take}
 use contract.Lifetimes.{Lfts}
 use Rattle.std.specs.Borrow.{Bor, MutBor}
 use denote.Triple.Clauses.{at_exit}
 use Rattle.model.specs.Answers.{Answers}
-use Rattle.model.specs.SchemeBytes.{scheme_needs}
+use Rattle.model.specs.Bytes.{byte}
+use Rattle.model.specs.Network.{held, world}
+use Rattle.model.specs.SchemeBytes.{at6, scheme_of, scheme_needs}
 use Rattle.model.specs.Requests.{event, set_policy, find, view, granted, answered}
 use Rattle.model.specs.Calls.{Called, Freshened, ListAnswered, DegreeAnswered, SuggestAnswered, LengthOf}
 use Rattle.claims.specs.FiveCalls.{Changed, Found, Viewed}
@@ -137,3 +140,7 @@ module _ (κs : Lfts 4) (scheme network : Bor (List ℕ)) (output : MutBor (List
       (at_exit suggest-contract.ended κs (scheme, (network, (v, (c, (output, (count, tt)))))) (tt, (tt, (tt, (tt, (left, (counted, tt)))))))
       ≡ SuggestAnswered scheme.now network.now v c output.now count.now k left counted
   suggest_learnt v c k left counted = refl
+
+-- what every contract judges by has the groups that the scheme's bytes say
+pub groups_judged : (b net : List ℕ) (m : ℕ) → (world (scheme_of b) (held (scheme_of b) net)).graph.group m ≡ eqb (byte b (at6 b + 4 + m)) 1
+groups_judged b net m = refl
