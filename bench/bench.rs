@@ -1,9 +1,9 @@
 //! Runs the library and a plain Rust program on the same requests, in one process, and compares answers and times: bench FOLDER.
-//! With the cfg `before` the library of another checkout runs beside them.
+//! With the cfg `before` the library of another checkout runs beside them, but for views in one call, which it may lack.
 //!
 //! A batch runs all requests of a file from the stored network, so often that it takes a millisecond. Before each run network
-//! and output are restored, within the measured time and for all programs alike; nothing is flushed from the processor's
-//! caches. Batches of the programs and of passes alternate, and medians of the thread's processor time are printed.
+//! and output are restored, where they may change, within the measured time and for all programs alike; nothing is flushed from
+//! the processor's caches. Batches of the programs and of passes alternate, and medians of the thread's processor time are printed.
 
 #[path = "../library/gatekeeper.rs"]
 mod gatekeeper;
@@ -12,6 +12,7 @@ mod gatekeeper;
 mod before;
 mod plain;
 
+use gatekeeper::Question;
 use std::hint::black_box;
 use std::time::{Duration, Instant};
 
@@ -64,11 +65,21 @@ struct Case {
     finds: Vec<Request>,
     mix: Vec<Request>,
     suggestions: Vec<Request>,
+    views: Vec<Question>,
+}
+
+fn questioned(view: &Request) -> Question {
+    match *view {
+        Request::View(viewer, owner, item) => Question { viewer, owner, item, answer: u8::MAX },
+        _ => panic!("no view"),
+    }
 }
 
 fn read_case(folder: &str, name: &str) -> Case {
     let bytes = |kind| std::fs::read(format!("{folder}/{name}.{kind}")).expect("no such file");
-    let requests = |kind| String::from_utf8(bytes(kind)).expect("no text").lines().map(parsed).collect();
+    let requests = |kind| -> Vec<Request> {
+        String::from_utf8(bytes(kind)).expect("no text").lines().map(parsed).collect()
+    };
     Case {
         name: name.to_string(),
         scheme: bytes("scheme"),
@@ -76,6 +87,7 @@ fn read_case(folder: &str, name: &str) -> Case {
         finds: requests("finds"),
         mix: requests("mix"),
         suggestions: requests("suggestions"),
+        views: requests("views").iter().map(questioned).collect(),
     }
 }
 
@@ -83,17 +95,28 @@ fn read_case(folder: &str, name: &str) -> Case {
 struct Run {
     network: Vec<u8>,
     output: [u16; 256],
+    questions: Vec<Question>,
     answers: Vec<(u8, usize)>,
 }
 
 impl Run {
     fn new(case: &Case) -> Run {
-        Run { network: case.network.clone(), output: [UNTOUCHED; 256], answers: Vec::with_capacity(1000) }
+        Run {
+            network: case.network.clone(),
+            output: [UNTOUCHED; 256],
+            questions: Vec::new(),
+            answers: Vec::with_capacity(1000),
+        }
     }
 
     fn restore(&mut self, case: &Case) {
         self.network.copy_from_slice(&case.network);
         self.output = [UNTOUCHED; 256];
+        self.answers.clear();
+    }
+
+    /// For what changes neither network nor output.
+    fn restore_answers(&mut self, _: &Case) {
         self.answers.clear();
     }
 }
@@ -135,11 +158,36 @@ fn ask_plain<const FORM: u8>(scheme: &[u8], run: &mut Run, request: &Request) ->
     }
 }
 
-type Ask = fn(&[u8], &mut Run, &Request) -> (u8, usize);
+/// Each question answered by a view of its own.
+fn ask_singly(run: &mut Run, questions: &[Question], view: impl Fn(&[u8], &Question) -> u8) -> (u8, usize) {
+    run.questions.clear();
+    run.questions.extend_from_slice(questions);
+    for question in &mut run.questions {
+        question.answer = view(&run.network, question);
+    }
+    (0, 0)
+}
+
+fn ask_library_singly(scheme: &[u8], run: &mut Run, questions: &Vec<Question>) -> (u8, usize) {
+    ask_singly(run, questions, |network, asked| gatekeeper::view(scheme, network, asked.viewer, asked.owner, asked.item))
+}
+
+fn ask_plain_singly<const FORM: u8>(scheme: &[u8], run: &mut Run, questions: &Vec<Question>) -> (u8, usize) {
+    ask_singly(run, questions, |network, asked| plain::view::<FORM>(scheme, network, asked.viewer, asked.owner, asked.item))
+}
+
+fn ask_library_at_once(scheme: &[u8], run: &mut Run, questions: &Vec<Question>) -> (u8, usize) {
+    run.questions.clear();
+    run.questions.extend_from_slice(questions);
+    (gatekeeper::views(scheme, &run.network, &mut run.questions), 0)
+}
+
+/// One of the programs on what is asked of it: a request, or a list of questions.
+type Ask<Asked> = fn(&[u8], &mut Run, &Asked) -> (u8, usize);
 
 const COUNT: usize = if cfg!(before) { 5 } else { 4 };
 
-const PROGRAMS: [(&str, Ask); COUNT] = [
+const PROGRAMS: [(&str, Ask<Request>); COUNT] = [
     ("library", ask_library),
     ("lists", ask_plain::<{ plain::LISTS }>),
     ("pairs", ask_plain::<{ plain::PAIRS }>),
@@ -148,14 +196,23 @@ const PROGRAMS: [(&str, Ask); COUNT] = [
     ("before", ask_before),
 ];
 
-/// Compares every answer, every output and every byte of the network, request by request.
-fn compare(case: &Case, requests: &[Request], other: Ask) {
+const VIEWS_PROGRAMS: [(&str, Ask<Vec<Question>>); 5] = [
+    ("one call", ask_library_at_once),
+    ("singly", ask_library_singly),
+    ("lists", ask_plain_singly::<{ plain::LISTS }>),
+    ("pairs", ask_plain_singly::<{ plain::PAIRS }>),
+    ("rows", ask_plain_singly::<{ plain::ROWS }>),
+];
+
+/// Compares every answer, every output, every question and every byte of the network, request by request.
+fn compare<Asked>(case: &Case, requests: &[Asked], library: Ask<Asked>, other: Ask<Asked>) {
     let (mut ours, mut theirs) = (Run::new(case), Run::new(case));
     for (i, request) in requests.iter().enumerate() {
-        let answer = ask_library(&case.scheme, &mut ours, request);
+        let answer = library(&case.scheme, &mut ours, request);
         assert_eq!(answer, other(&case.scheme, &mut theirs, request), "{} request {i}", case.name);
         assert!(ours.network == theirs.network, "{} network after request {i}", case.name);
         assert!(ours.output == theirs.output, "{} output after request {i}", case.name);
+        assert!(ours.questions == theirs.questions, "{} questions after request {i}", case.name);
     }
 }
 
@@ -167,11 +224,19 @@ fn processor_time() -> f64 {
     time.seconds as f64 + time.nanoseconds as f64 / 1e9
 }
 
+/// What is asked of the programs, and what a run needs before it.
+struct Asking<'a, Asked, const N: usize> {
+    requests: &'a [Asked],
+    programs: [(&'static str, Ask<Asked>); N],
+    restore: fn(&mut Run, &Case),
+}
+
 /// Seconds for each request of a batch.
-fn batch(case: &Case, requests: &[Request], run: &mut Run, ask: Ask, repeats: usize) -> f64 {
+fn batch<Asked, const N: usize>(case: &Case, asking: &Asking<Asked, N>, run: &mut Run, ask: Ask<Asked>, repeats: usize) -> f64 {
+    let requests = asking.requests;
     let start = processor_time();
     for _ in 0..repeats {
-        run.restore(case);
+        (asking.restore)(run, case);
         for request in requests {
             let answer = ask(black_box(&case.scheme), run, request);
             run.answers.push(answer);
@@ -224,20 +289,21 @@ fn pass(network: &[u8]) -> f64 {
 }
 
 /// Medians of seconds for each request, of each program, and of one pass.
-fn measure(case: &Case, requests: &[Request]) -> ([f64; COUNT], f64) {
-    let mut runs = PROGRAMS.map(|_| Run::new(case));
-    let mut times = PROGRAMS.map(|_| Vec::new());
+fn measure<Asked, const N: usize>(case: &Case, asking: &Asking<Asked, N>) -> ([f64; N], f64) {
+    let mut runs = asking.programs.map(|_| Run::new(case));
+    let mut times = asking.programs.map(|_| Vec::new());
     let mut passes = Vec::new();
-    let mut counts = [1; COUNT];
-    for (i, (_, ask)) in PROGRAMS.into_iter().enumerate() {
-        counts[i] = repeats(batch(case, requests, &mut runs[i], ask, 1), requests.len());
+    let mut counts = [1; N];
+    for (i, (_, ask)) in asking.programs.into_iter().enumerate() {
+        counts[i] = repeats(batch(case, asking, &mut runs[i], ask, 1), asking.requests.len());
     }
     let start = Instant::now();
     while passes.len() < LEAST_BATCHES || passes.len() < MOST_BATCHES && start.elapsed() < LONGEST {
         passes.push(pass(&case.network));
-        for (i, (_, ask)) in PROGRAMS.into_iter().enumerate() {
-            times[i].push(batch(case, requests, &mut runs[i], ask, counts[i]));
+        for (i, (_, ask)) in asking.programs.into_iter().enumerate() {
+            times[i].push(batch(case, asking, &mut runs[i], ask, counts[i]));
             assert!(runs[i].answers == runs[0].answers, "{}: answers of a batch", case.name);
+            assert!(runs[i].questions == runs[0].questions, "{}: questions of a batch", case.name);
         }
     }
     (times.map(|mut of_program| median(&mut of_program)), median(&mut passes))
@@ -254,6 +320,18 @@ fn verdict(name: &str, kind: &str, times: [f64; COUNT], pass: f64) -> &'static s
         ("find", Some("sparse" | "chain")) => lists.min(pairs) >= library,
         _ => return "",
     };
+    verdict_text(reached)
+}
+
+/// Whether the one call is as fast as wanted of forty views of one viewer: on 256 members, dense and sparse.
+fn views_verdict(name: &str, singly: f64, at_once: f64) -> &'static str {
+    match name {
+        "dense_standard_256" | "sparse_standard_256" => verdict_text(singly >= 10.0 * at_once),
+        _ => "",
+    }
+}
+
+fn verdict_text(reached: bool) -> &'static str {
     if reached { "reached" } else { "NOT REACHED" }
 }
 
@@ -265,15 +343,37 @@ fn print_heads() {
 
 fn print_line(case: &Case, kind: &str, requests: &[Request]) {
     for (_, ask) in &PROGRAMS[1..] {
-        compare(case, requests, *ask);
+        compare(case, requests, ask_library, *ask);
     }
-    let (times, pass) = measure(case, requests);
+    let (times, pass) = measure(case, &Asking { requests, programs: PROGRAMS, restore: Run::restore });
     let library = times[0];
     let rates: String = times.iter().map(|time| format!(" {:>9.0}", 1.0 / time)).collect();
     let ratios: String = times[1..].iter().map(|time| format!(" {:>8.2}", time / library)).collect();
     let line = format!(
         "{:<20} {kind:<7}{rates}{ratios} {:>10.2} {:>7.1}  {}",
         case.name, library * 1e6, library / pass, verdict(&case.name, kind, times, pass)
+    );
+    println!("{}", line.trim_end());
+}
+
+fn print_views_heads() {
+    println!(
+        "{:<20} {:>11} {:>11} {:>8} {:>11}",
+        "graph, members", "singly us", "one call us", "x singly", "plain us"
+    );
+}
+
+fn print_views_line(case: &Case) {
+    let lists = std::slice::from_ref(&case.views);
+    for (_, ask) in &VIEWS_PROGRAMS[1..] {
+        compare(case, lists, ask_library_at_once, *ask);
+    }
+    let asking = Asking { requests: lists, programs: VIEWS_PROGRAMS, restore: Run::restore_answers };
+    let ([at_once, singly, lists, pairs, rows], _) = measure(case, &asking);
+    let line = format!(
+        "{:<20} {:>11.1} {:>11.1} {:>8.2} {:>11.1}  {}",
+        case.name, singly * 1e6, at_once * 1e6, singly / at_once, lists.min(pairs).min(rows) * 1e6,
+        views_verdict(&case.name, singly, at_once)
     );
     println!("{}", line.trim_end());
 }
@@ -287,6 +387,13 @@ within the measured time; caches are not flushed, and freed memory is kept. A su
 turn. Wanted of a find on 256 members: dense and full, 10 times as fast as lists and within 12 passes; sparse and chain, as fast
 as the faster of lists and pairs; nested, below 50 milliseconds. Wanted of a suggest on 256 members where half of all pairs are
 friends: as fast as rows, and 5 times as fast as the faster of lists and pairs.
+";
+
+const VIEWS_EXPLAINED: &str = "\
+Forty views of one viewer, each of an owner and an item drawn from all: the microseconds that the library takes for all forty
+singly and in one call, how many times the rate of single views the one call has, and what the plain program takes for all forty
+singly, in its fastest form. The list is written anew before each run, within the measured time; network and output are not, since
+no view changes them. Wanted of the one call on 256 members under the standard scheme, dense and sparse: 10 times the rate.
 ";
 
 /// Has the allocator keep what is freed, so that the plain program does not pay for new pages at each request.
@@ -304,12 +411,17 @@ fn main() {
         println!("Before is the library of another checkout, in the same run.\n");
     }
     print_heads();
-    for name in names.lines() {
-        let case = read_case(&folder, name);
-        print_line(&case, "find", &case.finds);
-        print_line(&case, "mix", &case.mix);
+    let cases: Vec<Case> = names.lines().map(|name| read_case(&folder, name)).collect();
+    for case in &cases {
+        print_line(case, "find", &case.finds);
+        print_line(case, "mix", &case.mix);
         if !case.suggestions.is_empty() {
-            print_line(&case, "suggest", &case.suggestions);
+            print_line(case, "suggest", &case.suggestions);
         }
+    }
+    println!("\n{VIEWS_EXPLAINED}");
+    print_views_heads();
+    for case in cases.iter().filter(|case| !case.views.is_empty()) {
+        print_views_line(case);
     }
 }

@@ -1,6 +1,7 @@
 #!/usr/bin/env python3
 """Writes what bench/bench.rs runs: make_inputs.py FOLDER. For each name in FOLDER/names the files NAME.scheme, NAME.network,
-NAME.finds, NAME.mix and NAME.suggestions; the last three are requests as text, one to a line, and the last is empty for most."""
+NAME.finds, NAME.mix, NAME.suggestions and NAME.views; the last four are requests as text, one to a line, and the last two are
+empty for some."""
 import os
 import random
 import sys
@@ -15,6 +16,7 @@ FRIENDS = 3                 # the state that makes friends, in every scheme here
 FINDS, MIX = 32, 60         # requests to a file
 FEW_FINDS, FEW_MIX = 4, 10  # under the nested scheme, where one may take a tenth of a second
 WANTED = 20                 # suggestions
+VIEWS = 40                  # of one viewer
 
 
 # ---- Schemes
@@ -108,6 +110,12 @@ def mixed(scheme_bytes, n, pick, rng):
             'view': ('view', v, u, rng.randrange(counts.items))}[kind]
 
 
+def viewed(scheme_bytes, n, rng):
+    """Views of one viewer; each owner and item is drawn from all."""
+    items, v = ref.read_scheme(scheme_bytes)[1].counts.items, rng.randrange(n)
+    return [('view', v, rng.randrange(n), rng.randrange(items)) for _ in range(VIEWS)]
+
+
 # Each case: its name, the scheme, the graph, the settings of search (0) and traversal (1), and who asks for whom.
 CASES = [
     ('dense_standard', ref.standard_scheme, dense, {0: [8], 1: [2, 3, 4]}, opposite),
@@ -124,6 +132,9 @@ CASES = [
 
 # The cases in which each member in turn asks for suggestions.
 SUGGESTING = {'half_standard', 'sparse_standard', 'chain_standard'}
+
+# The cases in which one member asks for many views.
+VIEWING = {'dense_standard', 'dense_relations', 'full_standard', 'half_standard', 'sparse_standard', 'sparse_relations'}
 
 
 def write(folder, name, data):
@@ -151,6 +162,7 @@ def main(folder):
             write(folder, names[-1] + '.finds', lines(('find', *pick(n, rng)) for _ in range(finds)))
             write(folder, names[-1] + '.mix', lines(mixed(scheme, n, pick, rng) for _ in range(mix)))
             write(folder, names[-1] + '.suggestions', lines(('suggest', v, WANTED) for v in range(n) if name in SUGGESTING))
+            write(folder, names[-1] + '.views', lines(viewed(scheme, n, rng) if name in VIEWING else []))
     write(folder, 'names', lines((name,) for name in names))
 
 

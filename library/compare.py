@@ -19,8 +19,10 @@ REQUESTS = 20
 UNTOUCHED = 999
 NONE = 65535            # what stands in the place lent for a degree
 LARGEST = 2 ** 64 - 1
-FEWEST = 40             # how often each kind of scheme, of degree and of suggestions has to occur
-schemes, degrees, pages = Counter(), Counter(), Counter()
+FAR = (2 ** 8, 2 ** 16, 2 ** 32, LARGEST)
+LISTS = 3               # of questions, for each scheme
+FEWEST = 40             # how often each kind of scheme, degree, suggestions, list of questions and question has to occur
+schemes, degrees, pages, lists, questions = Counter(), Counter(), Counter(), Counter(), Counter()
 
 
 def expect(what, got, wanted):
@@ -90,9 +92,42 @@ def compare_suggestions(rng, scheme, network, members):
     more than the places."""
     for v, c in product(asked(members), repeat=2):
         compare_suggest(scheme, network, v, c, rng.choice([c, c, max(c - 1, 0), c + 1, members]))
-    for far in (2 ** 8, 2 ** 16, 2 ** 32, LARGEST):
+    for far in FAR:
         compare_suggest(scheme, network, far, 1, 1)
         compare_suggest(scheme, network, 0, far, members)
+
+
+def random_questions(rng, members):
+    """Runs of one viewer; it may be a viewer of before, and viewer or owner a number that ends in the bytes of a member."""
+    viewers = [rng.randrange(members + 1) for _ in range(3)] + [rng.choice(FAR)]
+    asked = []
+    for _ in range(rng.randrange(6)):
+        viewer = rng.choice(viewers)
+        for _ in range(rng.randrange(1, 5)):
+            owner = rng.choice(FAR) if rng.randrange(20) == 0 else rng.randrange(members + 1)
+            asked.append([viewer, owner, rng.choice(FAR) if rng.randrange(20) == 0 else rng.randrange(5), rng.randrange(256)])
+    return asked
+
+
+def count_questions(scheme, network, asked):
+    """Answers, and whether the viewer before asked too, another one did, or a further one came between."""
+    for i, (v, u, o, answer) in enumerate(asked):
+        before = [question[0] for question in asked[:i]]
+        last = before[-1] if before else None
+        questions[answer] += 1
+        questions['same viewer' if v == last else 'viewer of before' if v in before else 'new viewer'] += 1
+        if last not in (None, v):
+            questions['another answer for the viewer before'] += ref.view(scheme, network, last, u, o) != answer
+
+
+def compare_views(scheme, network, asked):
+    lent, wanted = (gatekeeper.Question * len(asked))(*map(tuple, asked)), [[*question] for question in asked]
+    answer = ref.views(scheme, network, wanted)
+    lists[('refused' if answer else 'answered') + ('' if asked else ', empty')] += 1
+    if answer == 0:
+        count_questions(scheme, network, wanted)
+    expect('views', gatekeeper.views(scheme, network, lent), answer)
+    expect('questions', [[question.viewer, question.owner, question.item, question.answer] for question in lent], wanted)
 
 
 def compare_request(rng, scheme, network, members):
@@ -132,6 +167,8 @@ def compare_scheme(rng):
         compare_request(rng, scheme, network, members)
     compare_degrees(scheme, network, members)
     compare_suggestions(rng, scheme, network, members)
+    for _ in range(LISTS):
+        compare_views(scheme, network, random_questions(rng, members))
     ours, wanted = bytearray(network), bytearray(network)
     expect('fresh', gatekeeper.fresh(scheme, ours), ref.fresh(scheme, wanted))
     expect('network', ours, wanted)
@@ -143,10 +180,14 @@ def main():
         compare_scheme(rng)
     for what, counted, kinds in (('schemes', schemes, ('refused', 'five records', 'persons', 'groups')),
                                  ('degrees', degrees, ('number', 'none', 'refused')),
-                                 ('suggestions', pages, ('c', 'fewer', 'nobody', 'refused', 'by groups'))):
+                                 ('suggestions', pages, ('c', 'fewer', 'nobody', 'refused', 'by groups')),
+                                 ('lists', lists, ('answered', 'answered, empty', 'refused', 'refused, empty')),
+                                 ('questions', questions, (0, 6, 7, 9, 11, 'same viewer', 'viewer of before', 'new viewer',
+                                                           'another answer for the viewer before'))):
         if min(counted[kind] for kind in kinds) < FEWEST:
             sys.exit('too few %s of a kind: %s' % (what, dict(counted)))
-    print('library: %d random schemes with %d requests, degrees and suggestions each answer as reference.py does' % (ROUNDS, REQUESTS))
+    print('library: %d random schemes with %d requests, degrees, suggestions and lists of views each answer as reference.py does'
+          % (ROUNDS, REQUESTS))
 
 
 if __name__ == '__main__':

@@ -19,7 +19,19 @@ pub mod answer {
     pub const OUTPUT_SHORT: u8 = 13;
 }
 
+/// A question of `views`: the viewer asks for the item of the owner. The struct is `gatekeeper_question` of gatekeeper.h.
+#[repr(C)]
+#[derive(Clone, Copy, Debug, PartialEq, Eq)]
+pub struct Question {
+    pub viewer: usize,
+    pub owner: usize,
+    pub item: usize,
+    pub answer: u8,
+}
+
 mod c {
+    use super::Question;
+
     extern "C" {
         pub fn gatekeeper_check(scheme: *const u8, scheme_length: usize) -> u8;
         pub fn gatekeeper_network_length(scheme: *const u8, scheme_length: usize) -> usize;
@@ -47,6 +59,10 @@ mod c {
         ) -> u8;
         pub fn gatekeeper_view(
             scheme: *const u8, scheme_length: usize, network: *const u8, network_length: usize, v: usize, u: usize, o: usize,
+        ) -> u8;
+        pub fn gatekeeper_views(
+            scheme: *const u8, scheme_length: usize, network: *const u8, network_length: usize, questions: *mut Question,
+            count: usize,
         ) -> u8;
     }
 }
@@ -124,4 +140,13 @@ pub fn suggest(scheme: &[u8], network: &[u8], v: usize, c: usize, output: &mut [
 /// Member v asks for item o of member u.
 pub fn view(scheme: &[u8], network: &[u8], v: usize, u: usize, o: usize) -> u8 {
     unsafe { c::gatekeeper_view(scheme.as_ptr(), scheme.len(), network.as_ptr(), network.len(), v, u, o) }
+}
+
+/// Many views in one call: with 0 each question has the answer that `view` gives to it, with 1 to 5 all are as they were.
+pub fn views(scheme: &[u8], network: &[u8], questions: &mut [Question]) -> u8 {
+    unsafe {
+        c::gatekeeper_views(
+            scheme.as_ptr(), scheme.len(), network.as_ptr(), network.len(), questions.as_mut_ptr(), questions.len(),
+        )
+    }
 }

@@ -41,6 +41,18 @@ static void print_list(int position, size_t v, size_t u)
     printf("\n");
 }
 
+/* A view, asked as a question too. */
+static uint8_t view(size_t v, size_t u, size_t o)
+{
+    gatekeeper_question question = {v, u, o, UINT8_MAX};
+    uint8_t answer = gatekeeper_view(scheme, scheme_length, network, network_length, v, u, o);
+    if (gatekeeper_views(scheme, scheme_length, network, network_length, &question, 1) != GATEKEEPER_GRANTED)
+        fail("a list of one question is refused");
+    if (question.answer != answer || question.viewer != v || question.owner != u || question.item != o)
+        fail("a question is not answered as a view");
+    return answer;
+}
+
 static uint8_t answer_to(const char *name, size_t x, size_t y, size_t z)
 {
     if (strcmp(name, "event") == 0)
@@ -50,7 +62,7 @@ static uint8_t answer_to(const char *name, size_t x, size_t y, size_t z)
     if (strcmp(name, "find") == 0)
         return gatekeeper_find(scheme, scheme_length, network, network_length, x, y);
     if (strcmp(name, "view") == 0)
-        return gatekeeper_view(scheme, scheme_length, network, network_length, x, y, z);
+        return view(x, y, z);
     fail("no such request");
     return 0;
 }

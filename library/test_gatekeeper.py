@@ -16,7 +16,7 @@ import gatekeeper
 import reference as ref
 
 SCHEME = ref.standard_scheme(4)
-CALLS = {'check', 'degree', 'event', 'find', 'fresh', 'list', 'network_length', 'set', 'suggest', 'view'}
+CALLS = {'check', 'degree', 'event', 'find', 'fresh', 'list', 'network_length', 'set', 'suggest', 'view', 'views'}
 OTHER_ORDER = (ctypes.c_uint16.__ctype_be__ if sys.byteorder == 'little' else ctypes.c_uint16.__ctype_le__) * 4
 
 
@@ -24,6 +24,23 @@ def fresh_network():
     network = bytearray(gatekeeper.network_length(SCHEME))
     assert gatekeeper.fresh(SCHEME, network) == 0
     return network
+
+
+def lent_questions(questions):
+    return (gatekeeper.Question * len(questions))(*questions)
+
+
+def fields(questions):
+    return [(question.viewer, question.owner, question.item, question.answer) for question in questions]
+
+
+class PackedQuestion(ctypes.Structure):
+    _pack_ = 1
+    _fields_ = gatekeeper.Question._fields_
+
+
+class QuestionOfOtherNames(ctypes.Structure):
+    _fields_ = [(name.upper(), element) for name, element in gatekeeper.Question._fields_]
 
 
 class Arguments(unittest.TestCase):
@@ -96,6 +113,51 @@ class Arguments(unittest.TestCase):
         self.assertEqual(gatekeeper.suggest(SCHEME, network[:-1], 4, 1, array('H')), (5, None))
         self.assertEqual(gatekeeper.suggest(b'', network, 4, 1, array('H')), (1, None))
 
+    def test_views(self):
+        """0 and 1 are friends, and 1 and 2. Everyone may traverse 1, and item 1 of 1 and of 2 is for those within 2."""
+        network = fresh_network()
+        network[0] = network[2] = 3
+        for m, r, p in ((1, 1, 4), (1, 7, 3), (2, 7, 3)):
+            self.assertEqual(gatekeeper.set(SCHEME, network, m, r, p), 0)
+        far = 2 ** 64 - 1
+        asked = [(0, 2, 1, 0), (0, 1, 1, 11), (0, 3, 1, 0), (3, 1, 1, 0), (0, 2, 2, 0), (0, 4, 1, 0), (2 ** 16, 0, 1, 0),
+                 (0, 2, 3, 0), (0, 2, 1, 9), (far, far, far, 255), (0, 2 ** 32, 1, 0), (0, 2, 2 ** 8 + 1, 0), (2, 0, 1, 0)]
+        wanted = [0, 0, 9, 9, 11, 6, 6, 7, 0, 6, 6, 7, 11]
+        questions, lent = lent_questions(asked), (bytes(SCHEME), bytes(network))
+        self.assertEqual(gatekeeper.views(*lent, questions), 0)
+        self.assertEqual(fields(questions), [(*question[:3], answer) for question, answer in zip(asked, wanted)])
+        self.assertEqual(wanted, [gatekeeper.view(SCHEME, network, *question[:3]) for question in asked])
+        for i in range(len(asked) + 1):             # the front of the questions alone
+            questions = lent_questions(asked)
+            self.assertEqual(gatekeeper.views(*lent, memoryview(questions)[:i]), 0)
+            self.assertEqual([answer for *_, answer in fields(questions)], wanted[:i] + [answer for *_, answer in asked[i:]])
+
+    def test_views_refused(self):
+        """The scheme's numbers and 5 refuse the list, empty or not, and leave each byte, between the fields too."""
+        network = fresh_network()
+        scheme_of = {1: SCHEME[:-1], 2: b'\6\0\1\0\0\0' + SCHEME[6:], 3: SCHEME[:50] + b'\2' + SCHEME[51:],
+                     4: SCHEME[:50] + b'\1' + SCHEME[51:], 5: SCHEME}
+        for answer, scheme in scheme_of.items():
+            damaged = network[:-1] + b'\xff' if answer == 5 else network
+            for count in (0, 1, 3):
+                before = bytes(range(1, 1 + ctypes.sizeof(gatekeeper.Question))) * count
+                questions = (gatekeeper.Question * count).from_buffer_copy(before)
+                self.assertEqual(gatekeeper.views(scheme, damaged, questions), answer)
+                self.assertEqual(bytes(questions), before)
+        self.assertEqual(gatekeeper.views(SCHEME, network, lent_questions([])), 0)
+
+    def test_what_questions_can_be_lent(self):
+        network, size = fresh_network(), ctypes.sizeof(gatekeeper.Question)
+        for questions in (gatekeeper.Question(), lent_questions([(0, 0, 0)]), memoryview(lent_questions([(0, 0, 0)] * 2))[1:],
+                          (gatekeeper.Question * 1).from_buffer(bytearray(size))):
+            self.assertEqual(gatekeeper.views(SCHEME, network, questions), 0)
+            self.assertEqual(memoryview(questions).tobytes()[gatekeeper.Question.answer.offset], 11)
+        for questions in ([], [gatekeeper.Question()], None, bytes(size), bytearray(size), array('Q', 4 * [0]),
+                          (PackedQuestion * 1)(), (QuestionOfOtherNames * 1)(),
+                          memoryview(lent_questions([(0, 0, 0)])).toreadonly(), memoryview(lent_questions([(0, 0, 0)] * 3))[::2],
+                          (gatekeeper.Question * 1).from_buffer(bytearray(size + 1), 1)):
+            self.refused(gatekeeper.views, SCHEME, network, questions)
+
     def test_groups(self):
         """1 has the friends 0, 2 and 3, and 3 has 0 too. A sixth record says who is a group."""
         policies = [(0, 0, 0, 0), (1, 0, 0, 0), (4, 1, 0, 0), (3, 2, 0, 0)]
@@ -137,6 +199,16 @@ class Arguments(unittest.TestCase):
             self.refused(gatekeeper.degree, SCHEME, network, 0, number)
             self.refused(gatekeeper.suggest, SCHEME, network, number, 0, array('H'))
             self.refused(gatekeeper.suggest, SCHEME, network, 0, number, array('H'))
+            for place in range(4):
+                self.refused(gatekeeper.Question, *[number if i == place else 0 for i in range(4)])
+        question = gatekeeper.Question(2 ** 64 - 1, 2 ** 64 - 1, 2 ** 64 - 1, 255)
+        self.assertEqual(fields([question]), [(2 ** 64 - 1, 2 ** 64 - 1, 2 ** 64 - 1, 255)])
+        self.refused(setattr, question, 'viewer', 2 ** 64)
+        self.refused(setattr, question, 'answer', 256)
+        with self.assertRaises(RuntimeError):           # so ctypes tells the error of an element
+            lent_questions([(0, 2 ** 64, 0)])
+        with self.assertRaises(AttributeError):
+            question.member = 0
 
     def test_overlap(self):
         """What is only read may be the same; what is written may not."""
@@ -146,11 +218,16 @@ class Arguments(unittest.TestCase):
             self.assertEqual(gatekeeper.degree(same, same, 0, 0), (5, None))
             self.assertEqual(gatekeeper.list(same, same, 0, 0, array('H', 4 * [0])), (5, None))
             self.assertEqual(gatekeeper.suggest(same, same, 0, 0, array('H')), (5, None))
+            self.assertEqual(gatekeeper.views(same, same, lent_questions([(0, 0, 0)])), 5)
         network = fresh_network()
         self.refused(gatekeeper.fresh, network, network)
         self.refused(gatekeeper.set, network, network, 0, 0, 0)
         self.refused(gatekeeper.list, SCHEME, network, 0, 0, memoryview(network)[2:12].cast('H'))
         self.refused(gatekeeper.suggest, SCHEME, network, 0, 0, memoryview(network)[2:12].cast('H'))
+        questions = lent_questions([(0, 0, 0)])
+        same = (ctypes.c_ubyte * ctypes.sizeof(questions)).from_buffer(questions)
+        self.refused(gatekeeper.views, SCHEME, same, questions)
+        self.refused(gatekeeper.views, memoryview(same)[-1:], network, questions)
 
     def test_nothing_stays_locked(self):
         """After a call and after an error, which is kept, what was lent can be resized."""
@@ -176,6 +253,12 @@ class Arguments(unittest.TestCase):
                 kept.append(tried(call, scheme, network, 0, 0, output))
                 for part in (scheme, network, output):
                     part.append(0)
+        for questions in (lent_questions([(0, 0, 0)]), (PackedQuestion * 1)()):
+            scheme, network = bytearray(SCHEME), fresh_network()
+            with memoryview(questions) as lent:
+                kept.append(tried(gatekeeper.views, scheme, network, lent))
+            for part in (scheme, network):
+                part.append(0)
         odd = bytearray(9)
         with memoryview(odd)[1:].cast('H') as output:
             kept.append(tried(gatekeeper.list, SCHEME, fresh_network(), 0, 0, output))
@@ -197,7 +280,7 @@ class Module(unittest.TestCase):
         exec('from gatekeeper import *', names)
         del names['__builtins__']
         self.assertEqual(names.keys() & vars(builtins).keys(), set())
-        self.assertEqual(names.keys(), CALLS - {'set', 'list'} | {'Answer'})
+        self.assertEqual(names.keys(), CALLS - {'set', 'list'} | {'Answer', 'Question'})
         self.assertTrue(all(callable(getattr(gatekeeper, call)) for call in CALLS))
 
     def test_numbers_are_those_of_the_header(self):

@@ -1,4 +1,4 @@
-//! Tests of the Rust wrapper's degree and suggest, and of groups, from the repository's root over a built library.
+//! Tests of the Rust wrapper's degree, suggest and views, and of groups, from the repository's root over a built library.
 
 mod gatekeeper;
 
@@ -40,6 +40,37 @@ fn suggest() {
     assert_eq!([suggest(0, 0), suggest(0, 1)], [(Ok(0), [9, 9, 9]), (Ok(1), [2, 9, 9])]);
     assert_eq!([suggest(0, 2), suggest(0, 3)], [(Ok(2), [2, 3, 9]), (Ok(2), [2, 3, 9])]);
     assert_eq!([suggest(0, 4), suggest(4, 4)], [(Err(13), [9, 9, 9]), (Err(6), [9, 9, 9])]);
+}
+
+fn questions(asked: &[(usize, usize, usize)], answer: u8) -> Vec<gatekeeper::Question> {
+    asked.iter().map(|&(viewer, owner, item)| gatekeeper::Question { viewer, owner, item, answer }).collect()
+}
+
+/// Each answer of a single view, the empty list, and lists that are refused: 0 and 1 are friends, and 1 and 2, and everyone may
+/// traverse 1.
+#[test]
+fn views() {
+    let (scheme, mut network) = fresh();
+    assert_eq!(gatekeeper::set(&scheme, &mut network, 1, 1, 4), 0);
+    assert_eq!(gatekeeper::set(&scheme, &mut network, 2, 7, 3), 0);
+    network[0] = 3;
+    network[2] = 3;
+    let far = usize::MAX;
+    let asked = [(0, 2, 1), (0, 3, 1), (3, 2, 1), (0, 2, 2), (4, 2, 1), (0, far, 1), (0, 2, 3), (far, far, far), (0, 2, 1)];
+    let wanted = [0, 9, 9, 11, 6, 6, 7, 6, 0];
+    let mut filled = questions(&asked, 99);
+    assert_eq!(gatekeeper::views(&scheme, &network, &mut filled), 0);
+    for (i, (&(v, u, o), &answer)) in asked.iter().zip(&wanted).enumerate() {
+        assert_eq!(filled[i], gatekeeper::Question { viewer: v, owner: u, item: o, answer });
+        assert_eq!(gatekeeper::view(&scheme, &network, v, u, o), answer);
+    }
+    for list in [&asked[..], &[]] {
+        let mut left = questions(list, 99);
+        assert_eq!(gatekeeper::views(&scheme[1..], &network, &mut left), 1);
+        assert_eq!(gatekeeper::views(&scheme, &network[1..], &mut left), 5);
+        assert_eq!(left, questions(list, 99));
+    }
+    assert_eq!(gatekeeper::views(&scheme, &network, &mut []), 0);
 }
 
 /// A sixth record after the five of the standard scheme: 1 has the friends 0, 2 and 3, and everyone may search for 2 and 3.

@@ -1,8 +1,8 @@
 #!/usr/bin/env python3
-"""The gatekeeper of document 01 with document 02's calls degree and suggest and its groups, written from their text alone, to
-compare the proved program with.
+"""The gatekeeper of document 01 with document 02's calls degree, suggest and views and its groups, written from their text alone,
+to compare the proved program with.
 
-With no arguments: a self check on document 01's session and edges, and on a few degrees, suggestions and groups.
+With no arguments: a self check on document 01's session and edges, and on a few degrees, suggestions, groups and lists of views.
 With two file names: the log program, on that scheme and those requests.
 """
 import sys
@@ -437,6 +437,16 @@ def view(scheme_bytes, network, v, u, o):
     return 0
 
 
+def views(scheme_bytes, network, questions):
+    """The answer of the whole list. Each question [viewer, owner, item, answer] gets the answer that its single view gives; a
+    refused scheme or network leaves them as they are, questions out of range do not refuse the list."""
+    answer, _ = read_network(scheme_bytes, network)
+    if answer == 0:
+        for question in questions:
+            question[3] = view(scheme_bytes, network, *question[:3])
+    return answer
+
+
 # ---- Log
 
 KINDS = {16: 'event', 17: 'set', 18: 'find', 19: 'list', 20: 'view'}
@@ -641,6 +651,31 @@ def check_groups(expect):
     expect('degree 0 4, by 3', [degree(*case(groups), 0, 4) for groups in (None, [3])], [(0, 2), (0, 2)])
 
 
+def check_views(expect):
+    """0 has the friend 1, whom everyone may traverse, and 1 the friend 2. Item 1 of 1 and of 2 is for those within 2, and the
+    other items are for no one. Nobody finds 3 but itself."""
+    scheme = standard_scheme(4)
+    network = bytearray(fresh_bytes(read_scheme(scheme)[1]))
+    network[pair_place(0, 1)] = network[pair_place(1, 2)] = 3
+    for m, r, p in ((1, TRAVERSAL, 4), (1, 7, 3), (2, 7, 3)):
+        expect('set %d %d %d' % (m, r, p), set_policy(scheme, network, m, r, p), 0)
+
+    def answers(given, data, asked):
+        questions = [[*question, 99] for question in asked]
+        answer = views(given, data, questions)
+        kept = all(tuple(question[:3]) == said for question, said in zip(questions, asked))
+        return answer, [question[3] for question in questions], kept
+
+    asked = [(0, 2, 1), (0, 1, 1), (0, 1, 2), (0, 3, 1), (3, 1, 1), (3, 3, 1), (0, 2, 1)]
+    beyond = [(0, 4, 1), (0, 2, 3), (0, 2, 1), (4, 2, 1), (0, 2, 0), (2 ** 64 - 1, 4, 3), (2, 0, 3), (2, 0, 1)]
+    lists = {'views': (asked, [0, 0, 11, 9, 9, 11, 0]), 'views, out of range': (beyond, [6, 7, 0, 6, 11, 6, 7, 11]),
+             'views, one': (asked[3:4], [9]), 'views, none': ([], [])}
+    for what, (questions, said) in lists.items():
+        expect(what, answers(scheme, network, questions), (0, said, True))
+        expect(what + ', one byte less', answers(scheme, network[:-1], questions), (5, [99] * len(said), True))
+        expect(what + ', no scheme', answers(b'', network, questions), (1, [99] * len(said), True))
+
+
 def self_check():
     failures = 0
 
@@ -674,9 +709,8 @@ def self_check():
     network[pair_place(0, 2)] = 3
     expect('degree 0 3, by 2', degree(scheme, network, 0, 3), (0, 2))
     expect('degree 0 2, friends', degree(scheme, network, 0, 2), (0, 1))
-    check_suggestions(expect)
-    check_sixth_record(expect)
-    check_groups(expect)
+    for more in (check_suggestions, check_sixth_record, check_groups, check_views):
+        more(expect)
     expect('longest network', network_length(LIMITS), 39296)
     print('%d differ' % failures)
     return failures == 0

@@ -9,7 +9,7 @@ ghost use Rattle.network.specs.Worlds.{members_in};
 
 use cases::Stop;
 use network::World;
-use prepared::Accessor;
+use prepared::{Accessor, Places};
 use std::io;
 use std::io::Read;
 
@@ -23,11 +23,9 @@ fn print_admitted(
 ) -> io::Result<()>
     requires { (v < members_in world.now) × (u < members_in world.now) }
 {
-    let mut distances = [0u16; 256];
-    let mut rows = [[0u64; 4]; 256];
-    let mut persons = [0; 4];
-    prepared::prepare(world, v, &mut distances, &mut rows, &mut persons);
-    let accessor = Accessor::new(world, v, &distances, &rows, &persons);
+    let mut places = Places::new();
+    prepared::prepare(world, v, &mut places);
+    let accessor = Accessor::new(world, v, &places);
     let set = policies::admitted(&accessor, u, 0, world.scheme.counts.policies);
     println!(rt; "{number} {v} {u} {set}")
 }

@@ -10,12 +10,13 @@ ghost use Rattle.model.specs.Graph.{Friends};
 ghost use Rattle.model.specs.SchemeBytes.{n, A, I};
 ghost use Rattle.network.specs.Worlds.{members_in, resources_in, world_in, graph_in};
 ghost use Rattle.prepared.specs.Asking.{world_asked};
+ghost use Rattle.prepared.specs.Prepared.{Prepared};
 ghost use Rattle.finding.specs.Everyone.{Everyone};
 ghost use Rattle.checks.specs.Asked.{asking_in};
 ghost use Rattle.checks.specs.Judged.{Judged};
 
 use network::World;
-use prepared::Accessor;
+use prepared::{Accessor, Places};
 use refusals::Refusal;
 
 // Whether v and u are one or friends: then v finds u, and nothing has to be prepared.
@@ -32,11 +33,9 @@ fn ask<R, F: FnOnce(&Accessor<'_>) -> R>(world: &World<'_>, v: usize, asked: F) 
     requires { (v < members_in world.now) × FnOnceTakesAt F.FnOnce asked (asking_in world.now v) }
     ensures { FnOnceReturnsAt F.FnOnce asked (asking_in world.now v) result }
 {
-    let mut distances = [0; 256];
-    let mut rows = [[0; 4]; 256];
-    let mut persons = [0; 4];
-    prepared::prepare(world, v, &mut distances, &mut rows, &mut persons);
-    asked(&Accessor::new(world, v, &distances, &rows, &persons))
+    let mut places = Places::new();
+    prepared::prepare(world, v, &mut places);
+    asked(&Accessor::new(world, v, &places))
 }
 
 // Whether v finds u.
@@ -55,16 +54,15 @@ pub fn found(world: &World<'_>, v: usize, u: usize) -> bool
         )
 }
 
-// Marks everyone whom v finds. No closure can say what it leaves in a lent place, so the accessor is prepared here too.
-pub fn everyone(world: &World<'_>, v: usize, found: &mut [u16; 256])
+// Marks everyone whom v finds, and leaves what was prepared for v. No closure can say what it leaves in a lent place, so the
+// accessor is prepared here too.
+pub fn everyone(world: &World<'_>, v: usize, places: &mut Places, found: &mut [u16; 256])
     requires { v < members_in world.now }
-    ensures { Everyone (world_in world.now) v found.new }
+    ensures prepared { Prepared world.now.scheme.bytes.now world.now.network.now v places.new.distances places.new.rows places.new.persons }
+    ensures found { Everyone (world_in world.now) v found.new }
 {
-    let mut distances = [0; 256];
-    let mut rows = [[0; 4]; 256];
-    let mut persons = [0; 4];
-    prepared::prepare(world, v, &mut distances, &mut rows, &mut persons);
-    finding::everyone(&Accessor::new(world, v, &distances, &rows, &persons), found);
+    prepared::prepare(world, v, places);
+    finding::everyone(&Accessor::new(world, v, places), found);
 }
 
 // What is granted to a member that is u or its friend, and so finds it.
@@ -85,17 +83,18 @@ fn judge_near<T: Copy>(
     Ok(granted)
 }
 
-// What is granted to any other.
-fn judge_apart<T: Copy>(
+// What is granted to an accessor of whom it is known whether it finds u.
+pub fn judge_found<T: Copy>(
     accessor: &Accessor<'_>,
+    found: bool,
     u: usize,
     r: usize,
     granted: Option<T>,
 ) -> Result<T, Refusal>
-    requires { (u < n accessor.now.scheme) × (r < 2 + A accessor.now.scheme + I accessor.now.scheme) }
+    requires { (u < n accessor.now.scheme) × (r < 2 + A accessor.now.scheme + I accessor.now.scheme) × Decides found (Finds (world_asked accessor.now) accessor.now.v u) }
     ensures { Judged (world_asked accessor.now) accessor.now.v u r granted result }
 {
-    if !finding::finds(accessor, u) {
+    if !found {
         return Err(Refusal::NotFound);
     }
     let granted = granted.ok_or(Refusal::Undefined)?;
@@ -126,6 +125,6 @@ pub fn judge<T: Copy>(
         |accessor|
             requires { (u < n accessor.now.scheme) × (r < 2 + A accessor.now.scheme + I accessor.now.scheme) }
             ensures { Judged (world_asked accessor.now) accessor.now.v u r granted result }
-        { judge_apart(accessor, u, r, granted) },
+        { judge_found(accessor, finding::finds(accessor, u), u, r, granted) },
     )
 }

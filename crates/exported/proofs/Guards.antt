@@ -13,6 +13,7 @@ use Rattle.model.specs.Network.{held, world}
 use Rattle.model.specs.SchemeBytes.{at6, scheme_of, scheme_needs}
 use Rattle.model.specs.Requests.{event, set_policy, find, view, granted, answered}
 use Rattle.model.specs.Calls.{Called, Freshened, ListAnswered, DegreeAnswered, SuggestAnswered, LengthOf}
+use Rattle.model.specs.Questions.{ViewsLeft}
 use Rattle.claims.specs.FiveCalls.{Changed, Found, Viewed}
 use Rattle.gatekeeper.specs.contracts.gatekeeper_check as check-contract
 use Rattle.gatekeeper.specs.contracts.gatekeeper_network_length as length-contract
@@ -20,6 +21,7 @@ use Rattle.gatekeeper.specs.contracts.gatekeeper_fresh as fresh-contract
 use Rattle.gatekeeper.specs.contracts.gatekeeper_list as list-contract
 use Rattle.gatekeeper.specs.contracts.gatekeeper_degree as degree-contract
 use Rattle.gatekeeper.specs.contracts.gatekeeper_suggest as suggest-contract
+use Rattle.gatekeeper.specs.contracts.gatekeeper_views as views-contract
 use Rattle.gatekeeper.proofs.gatekeeper_check.Reads as check-reads
 use Rattle.gatekeeper.proofs.gatekeeper_network_length.Reads as length-reads
 use Rattle.gatekeeper.proofs.gatekeeper_fresh.Reads as fresh-reads
@@ -30,6 +32,9 @@ use Rattle.gatekeeper.proofs.gatekeeper_list.Reads as list-reads
 use Rattle.gatekeeper.proofs.gatekeeper_degree.Reads as degree-reads
 use Rattle.gatekeeper.proofs.gatekeeper_suggest.Reads as suggest-reads
 use Rattle.gatekeeper.proofs.gatekeeper_view.Reads as view-reads
+use Rattle.gatekeeper.proofs.gatekeeper_views.Reads as views-reads
+use Rattle.views.specs.Answered.{questions_of}
+use Rattle.views.specs.declared.Question.{Question}
 use Rattle.exported.specs.Cite.{EventTold, SetTold, FindTold, ViewTold, ListLearnt, ListMade}
 
 -- a caller has nothing to show, and what is learnt is what the specification says, no less and no more
@@ -141,6 +146,12 @@ module _ (κs : Lfts 4) (scheme network : Bor (List ℕ)) (output : MutBor (List
       ≡ SuggestAnswered scheme.now network.now v c output.now count.now k left counted
   suggest_learnt v c k left counted = refl
 
--- what every contract judges by has the groups that the scheme's bytes say
-pub groups_judged : (b net : List ℕ) (m : ℕ) → (world (scheme_of b) (held (scheme_of b) net)).graph.group m ≡ eqb (byte b (at6 b + 4 + m)) 1
-groups_judged b net m = refl
+module _ (κs : Lfts 3) (scheme network : Bor (List ℕ)) (questions : MutBor (List Question)) where
+  pub views_asks_nothing : views-reads.Asked κs (scheme, (network, (questions, tt)))
+  views_asks_nothing = tt
+
+  pub views_learnt : (k : ℕ) (after : List Question)
+      → views-reads.Learnt κs (scheme, (network, (questions, tt))) k
+      (at_exit views-contract.ended κs (scheme, (network, (questions, tt))) (tt, (tt, (after, tt))))
+      ≡ ViewsLeft scheme.now network.now (questions_of questions.now) k (questions_of after)
+  views_learnt k after = refl

@@ -5,12 +5,15 @@
 ghost use Rattle.std.specs.Prelude.{◌≡◌};
 ghost use Rattle.model.specs.Answers.{Answers};
 ghost use Rattle.model.specs.Calls.{Called, Freshened, ListAnswered, DegreeAnswered, SuggestAnswered, LengthOf};
+ghost use Rattle.model.specs.Questions.{ViewsLeft};
 ghost use Rattle.model.specs.Requests.{event, set_policy, find, view, answered};
 ghost use Rattle.model.specs.SchemeBytes.{scheme_needs};
 ghost use Rattle.refusals.specs.Numbers.{answer_of};
+ghost use Rattle.views.specs.Answered.{questions_of};
 ghost use Rattle.gatekeeper.specs.Told.{told_or, degree_told};
 
 use refusals::Refusal;
+use views::Question;
 
 // A call's number. Only a grant writes what it tells.
 fn tell<T: Copy>(told: Result<T, Refusal>, place: &mut T) -> u8
@@ -117,4 +120,11 @@ pub fn gatekeeper_view(scheme: &[u8], network: &[u8], v: usize, u: usize, o: usi
     ensures { Called scheme.now network.now (answered (view v u o) result) network.now }
 {
     refusals::answer(requests::view(scheme, network, v, u, o))
+}
+
+// Views: fills in the answers of a list of questions. A refusal is of the whole list and fills in none.
+pub fn gatekeeper_views(scheme: &[u8], network: &[u8], questions: &mut [Question]) -> u8
+    ensures { ViewsLeft scheme.now network.now (questions_of questions.old) result (questions_of questions.new) }
+{
+    refusals::answer(views::views(scheme, network, questions))
 }

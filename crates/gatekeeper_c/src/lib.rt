@@ -4,8 +4,12 @@
 
 ghost use Rattle.model.specs.Answers.{Answers};
 ghost use Rattle.model.specs.Calls.{Called, Freshened, ListAnswered, DegreeAnswered, SuggestAnswered, LengthOf};
+ghost use Rattle.model.specs.Questions.{ViewsLeft};
 ghost use Rattle.model.specs.Requests.{event, set_policy, find, view, answered};
 ghost use Rattle.model.specs.SchemeBytes.{scheme_needs};
+ghost use Rattle.views.specs.Answered.{questions_of};
+
+use views::Question;
 
 // The scheme check.
 #[unsafe(no_mangle)]
@@ -117,4 +121,12 @@ pub extern "C" fn gatekeeper_view(scheme: &[u8], network: &[u8], v: usize, u: us
     ensures { Called scheme.now network.now (answered (view v u o) result) network.now }
 {
     gatekeeper::gatekeeper_view(scheme, network, v, u, o)
+}
+
+// Views: fills in the answers of a list of questions. A refusal is of the whole list and fills in none.
+#[unsafe(no_mangle)]
+pub extern "C" fn gatekeeper_views(scheme: &[u8], network: &[u8], questions: &mut [Question]) -> u8
+    ensures { ViewsLeft scheme.now network.now (questions_of questions.old) result (questions_of questions.new) }
+{
+    gatekeeper::gatekeeper_views(scheme, network, questions)
 }

@@ -3,16 +3,21 @@ use Prim.Native.Nat.{ℕ, zero, suc, ◌+◌, ◌<◌, ◌≤◌}
 use mathlib.Core.Path.{◌≡◌, refl, sym, ap}
 use mathlib.Core.Bool.{Bool, true, false, ◌&&◌, not, and-true}
 use mathlib.Core.List.{List}
-use mathlib.Core.Logic.{◌⊎◌, inl, inr}
+use mathlib.Core.Logic.{inl, inr}
 use native.Mathlib.Omega.{arith}
 use native.Mathlib.Decide.{dec_lt}
 use lib.Dec.{eqb}
 use lib.ListN.{length, get_or-eq_default}
-use Rattle.model.specs.Bytes.{byte, RecordAt}
+use Rattle.model.specs.Bytes.{byte}
 use Rattle.model.specs.Graph.{Graph, Friends, Within, Degree, friendships, none, IsDegree, one, count, shared, Clique}
-use Rattle.model.specs.SchemeBytes.{n, at6, scheme_of, Records, BytesFit}
+use Rattle.model.specs.Network.{held, world}
+use Rattle.model.specs.SchemeBytes.{n, at6, scheme_of, Sixth, Records, BytesFit}
 use Rattle.model.proofs.Counting.{count_ext, count_some}
 use Rattle.model.proofs.Deciding.{is_true, conj}
+
+-- what is judged on a network has the groups that the scheme's bytes say
+pub groups_judged : (b net : List ℕ) (m : ℕ) → (world (scheme_of b) (held (scheme_of b) net)).graph.group m ≡ eqb (byte b (at6 b + 4 + m)) 1
+groups_judged b net m = refl
 
 -- without a sixth record all are persons
 pub all_persons : (b : List ℕ) → length b ≡ at6 b → (m : ℕ) → (scheme_of b).group m ≡ false
@@ -24,7 +29,7 @@ all_persons b e m =
 past_end : (b : List ℕ) → Records b → (m : ℕ) → n b ≤ m → byte b (at6 b + 4 + m) ≡ 0
 past_end b r m l = go r.groups
   where
-    go : (length b ≡ at6 b) ⊎ (RecordAt b (at6 b) 6 (n b) × (length b ≡ at6 b + 4 + n b)) → byte b (at6 b + 4 + m) ≡ 0
+    go : Sixth b → byte b (at6 b + 4 + m) ≡ 0
     go (inl e) = let h : length b ≤ at6 b + 4 + m = omega (arith, e) in get_or-eq_default b 0 h
     go (inr (p, e)) = let h : length b ≤ at6 b + 4 + m = omega (arith, e, l) in get_or-eq_default b 0 h
 

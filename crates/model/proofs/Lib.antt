@@ -12,6 +12,7 @@ pub mod Degrees
 pub mod Judging
 pub mod Paging
 pub mod Suggesting
+pub mod Questioning
 -- schemes and networks
 pub mod Cliques
 pub mod Decoding

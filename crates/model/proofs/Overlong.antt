@@ -1,14 +1,14 @@
 -- A scheme file longer than every accepted one is refused by its first bytes.
-use Prim.Native.Nat.{ℕ, zero, suc, ◌+◌, ◌*◌, ◌<◌, ◌≤◌}
+use Prim.Native.Nat.{ℕ, zero, suc, ◌*◌, ◌<◌, ◌≤◌}
 use mathlib.Core.Path.{◌≡◌, refl}
 use mathlib.Core.List.{List, [], ◌∷◌, ◌++◌}
-use mathlib.Core.Logic.{◌⊎◌, inl, inr}
+use mathlib.Core.Logic.{inl, inr}
 use native.Mathlib.Omega.{arith}
 use native.Mathlib.Nat.{mul-le-mul}
 use lib.ListN.{length, get_or, length-append}
 use Rattle.model.specs.Answers.{Answers}
 use Rattle.model.specs.Bytes.{RecordAt}
-use Rattle.model.specs.SchemeBytes.{CountsFit, Records, scheme_needs, Accepted, n, at6, longest_scheme}
+use Rattle.model.specs.SchemeBytes.{CountsFit, Sixth, Records, scheme_needs, Accepted, n, at6, longest_scheme}
 
 front : (b rest : List ℕ) (k : ℕ) → k < length b → get_or (b ++ rest) k 0 ≡ get_or b k 0
 front [] rest k h = absurd (omega arith)
@@ -27,7 +27,7 @@ five_small b c =
 all_small : (b : List ℕ) → CountsFit b → Records b → length b ≤ longest_scheme
 all_small b c r = go r.groups
   where
-    go : (length b ≡ at6 b) ⊎ (RecordAt b (at6 b) 6 (n b) × (length b ≡ at6 b + 4 + n b)) → length b ≤ longest_scheme
+    go : Sixth b → length b ≤ longest_scheme
     go (inl e) = omega (arith, e, five_small b c)
     go (inr (h, e)) = omega (arith, e, five_small b c, c.members.1)
 

@@ -10,7 +10,7 @@ use lib.ListN.{length, get_or, get_or-eq_default}
 use Rattle.model.specs.Bytes.{byte, two, four, RecordAt}
 use Rattle.model.specs.Policies.{Policy, Admits, no_one, either}
 use Rattle.model.specs.Scheme.{Scheme, lowest_from}
-use Rattle.model.specs.SchemeBytes.{scheme_of, policies, scheme_needs, Accepted, at2, at3, at5, at6, S, P, strangers, field, PolicyFits, MaskFits, CountsFit, Records, BytesFit, StrangersApart}
+use Rattle.model.specs.SchemeBytes.{scheme_of, policies, scheme_needs, Accepted, at2, at3, at5, at6, S, P, strangers, field, PolicyFits, MaskFits, CountsFit, Sixth, Records, BytesFit, StrangersApart}
 use Rattle.model.specs.Network.{size, fresh}
 use Rattle.model.specs.Standard.{standard_bytes, standard, standard_policies, invited, StandardRead}
 use Rattle.model.proofs.Computing.{every}
@@ -99,7 +99,7 @@ module _ (n : ℕ) (more : List ℕ) where
   pub counts : 1 ≤ n → n ≤ 256 → CountsFit b
   counts low high = record { members = omega arith; states = omega arith; primitives = omega arith; items = omega arith; policies = omega arith }
 
-  pub records : (length b ≡ at6 b) ⊎ (RecordAt b (at6 b) 6 (two b 4) × (length b ≡ at6 b + 4 + two b 4)) → Records b
+  pub records : Sixth b → Records b
   records behind = record {
     moves = (omega arith, refl, refl);
     friends = (omega arith, refl, refl);

@@ -22,6 +22,10 @@ pub record Freshened (b net : List ℕ) (answer : ℕ) (after : List ℕ) : Type
   pub made : answer ≡ 0 → Fresh b after
   pub kept : (answer ≡ 0 → ⊥) → after ≡ net
 
+-- the scheme check, and 5 if length or any byte of the network is off
+abbrev pub open_needs : List ℕ → List ℕ → List Requirement
+open_needs b net = scheme_needs b ++ (5, Valid (scheme_of b) net) ∷ []
+
 -- what a granted request does to the bytes
 abbrev pub puts : Scheme → List ℕ → Request → List ℕ
 puts c net (event v u a) = set net (pair_place (min v u) (max v u)) (next c (held c net) v u a)

@@ -1,16 +1,17 @@
 -- Small examples of the policies and of the requests (docs/reference.md, "Worked examples").
-use Rattle.std.specs.Prelude.{ℕ, ◌≡◌, Bool, true, false, ◌&&◌, ◌||◌, not, cond, List, [], ◌∷◌, ◌++◌, eqb}
+use Rattle.std.specs.Prelude.{ℕ, ◌≡◌, Bool, true, false, ◌&&◌, ◌||◌, not, cond, List, [], ◌∷◌, ◌++◌, map, drop, eqb}
 use Rattle.model.specs.Answers.{Answers}
 use Rattle.model.specs.Bytes.{bit}
 use Rattle.model.specs.Graph.{Graph, Degree, friendships, none, IsDegree}
 use Rattle.model.specs.Policies.{Policy, known, clique, within, state, both, either, owner_only, no_one, everyone, any_side, owner_lesser, owner_greater, Admits}
 use Rattle.model.specs.SchemeBytes.{scheme_of, scheme_needs}
 use Rattle.model.specs.Finding.{World}
-use Rattle.model.specs.Network.{Maps, marked_graph, world}
+use Rattle.model.specs.Network.{Maps, Laid, marked_graph, world}
 use Rattle.model.specs.Requests.{Request, event, set_policy, find, list, view, needs, writes, does, granted}
 use Rattle.model.specs.Suggestions.{Suggestions, suggest_needs}
 use Rattle.model.specs.Log.{Outcome, ended, refused, request, NextAt, place_after}
 use Rattle.model.specs.Calls.{Fresh, puts}
+use Rattle.model.specs.Questions.{Question, ViewsLeft}
 use Rattle.model.specs.Standard.{standard, standard_bytes}
 
 -- 0, 1, 2 are friends of each other; 3 is a friend of 1 and 2; 4 is a friend of 3; 0, 3 and 4 are in group 5
@@ -162,6 +163,52 @@ judgements =
     ∷ (set_policy 3 0 7, 12, [])
     ∷ (set_policy 3 0 12, 0, [])
     ∷ []
+
+-- the four as bytes
+abbrev pub four_bytes : List ℕ
+four_bytes =
+    3 ∷ 0 ∷ 3 ∷ 0 ∷ 0 ∷ 0
+    ∷ 8 ∷ 0 ∷ 0 ∷ 4 ∷ 4 ∷ 4 ∷ 8 ∷ 0 ∷ 0
+    ∷ 8 ∷ 4 ∷ 0 ∷ 4 ∷ 4 ∷ 4 ∷ 8 ∷ 0 ∷ 0
+    ∷ 8 ∷ 0 ∷ 0 ∷ 4 ∷ 4 ∷ 4 ∷ 8 ∷ 3 ∷ 0
+    ∷ 12 ∷ 0 ∷ 0 ∷ 4 ∷ 4 ∷ 4 ∷ 8 ∷ 0 ∷ 0
+    ∷ []
+
+-- viewer, owner and item of a question, what the place for its answer held, and the answer
+abbrev pub Asking : Type 0
+Asking = ℕ × ℕ × ℕ × ℕ × ℕ
+
+abbrev pub before : Asking → Question
+before (v, u, o, held, answer) = record { viewer = v; owner = u; item = o; answer = held }
+
+abbrev pub after : Asking → Question
+after (v, u, o, held, answer) = record { viewer = v; owner = u; item = o; answer = answer }
+
+abbrev pub askings : List Asking
+askings =
+    (0, 2, 1, 9, 0)
+    ∷ (0, 2, 2, 0, 11)
+    -- the viewer changes and returns, and views the other way
+    ∷ (3, 2, 2, 11, 9)
+    ∷ (0, 2, 1, 9, 0)
+    ∷ (2, 0, 1, 0, 11)
+    -- 7 and 6 are of single questions
+    ∷ (2, 0, 3, 0, 7)
+    ∷ (3, 2, 3, 0, 7)
+    ∷ (4, 0, 3, 0, 6)
+    ∷ (2, 4, 3, 6, 6)
+    ∷ (2, 2, 0, 255, 11)
+    ∷ (3, 3, 1, 0, 11)
+    ∷ []
+
+-- what views leaves of them; of no question; and of a network of a byte more, of one with a byte off, and of a scheme of no bytes
+pub record Viewings : Type 0 where
+  pub laid : Laid (standard 4) four four_bytes
+  pub filled_in : ViewsLeft (standard_bytes 4) four_bytes (map before askings) 0 (map after askings)
+  pub empty : ViewsLeft (standard_bytes 4) four_bytes [] 0 []
+  pub long_network : ViewsLeft (standard_bytes 4) (four_bytes ++ 0 ∷ []) (map before askings) 5 (map before askings)
+  pub byte_off : ViewsLeft (standard_bytes 4) (4 ∷ drop 1 four_bytes) (map before askings) 5 (map before askings)
+  pub no_scheme : ViewsLeft [] four_bytes (map before askings) 1 (map before askings)
 
 -- two members of the four, and their degree: 0 finds 3 by search, and no friendship joins them
 abbrev pub degrees : List (ℕ × ℕ × Degree)

@@ -19,6 +19,7 @@ pub mod Suggestions
 -- "The calls"
 pub mod Requests
 pub mod Calls
+pub mod Questions
 pub mod Log
 pub mod Text
 -- "The plain machine"

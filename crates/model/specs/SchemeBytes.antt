@@ -120,13 +120,17 @@ module _ (b : List ℕ) where
     pub items : (1 ≤ I) × (I ≤ 16)
     pub policies : (1 ≤ P) × (P ≤ 32)
 
+  -- nothing follows the fifth record, or one record of kind 6
+  abbrev pub Sixth : Type 0
+  Sixth = (length b ≡ at6) ⊎ (RecordAt b at6 6 n × (length b ≡ at6 + 4 + n))
+
   -- 1: a later record is cut, of another kind or length, or anything but one record of kind 6 follows the fifth
   pub record Records : Type 0 where
     pub moves : RecordAt b at2 2 (S * 2 * A)
     pub friends : RecordAt b at3 3 S
     pub policies : RecordAt b at4 4 (P * 4)
     pub masks : RecordAt b at5 5 ((2 + A + I) * 4)
-    pub groups : (length b ≡ at6) ⊎ (RecordAt b at6 6 n × (length b ≡ at6 + 4 + n))
+    pub groups : Sixth
 
   -- 3: a byte inside kinds 2 to 6 breaks what is said of it
   pub record BytesFit : Type 0 where

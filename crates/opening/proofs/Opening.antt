@@ -1,6 +1,7 @@
 -- What `open` answers, for a call that asks more.
-use Rattle.std.proofs.Common.{ℕ, ◌<◌, List, [], ◌∷◌, ◌++◌, inl, inr, arith}
+use Rattle.std.proofs.Common.{ℕ, ◌<◌, refl, List, [], ◌∷◌, ◌++◌, inl, inr, arith}
 use Rattle.model.specs.Answers.{Requirement, Answers}
+use Rattle.model.specs.Calls.{open_needs}
 use Rattle.model.specs.SchemeBytes.{scheme_of, scheme_needs}
 use Rattle.model.specs.Network.{Valid}
 use Rattle.model.specs.Requests.{BothMembers}
@@ -10,11 +11,17 @@ use Rattle.refusals.specs.declared.Refusal.{Refusal}
 use Rattle.refusals.proofs.Apart.{number_above}
 use Rattle.network.specs.Ready.{Ready}
 use Rattle.network.specs.declared.world.World.{World}
-use Rattle.opening.specs.Opened.{open_needs, member_needs, WorldOf}
+use Rattle.opening.specs.Opened.{WorldOfBytes, member_needs, WorldOf}
 
 -- what is known of the bytes that were opened
 pub opened_ready : {b net : List ℕ} {v u : ℕ} {w : World} → WorldOf b net v u w → Ready b w.scheme.counts net
 opened_ready {w = w} h = rw (h.scheme, h.network) at w.ready
+
+-- scheme and network pass
+pub begun_granted : {b net : List ℕ} {w : World} → WorldOfBytes b net w → Answers (open_needs b net) 0
+begun_granted {b} {net} {w} h =
+    let r : Ready b w.scheme.counts net = rw (h.scheme, h.network) at w.ready in
+    behind (scheme_needs b) ((5, Valid (scheme_of b) net) ∷ []) 0 (granted_met (scheme_needs b) (omega arith) r.accepted) (inr (r.valid, refl))
 
 module _ (b net : List ℕ) (v u : ℕ) (later : List Requirement) where
   -- a refusal stands, whatever the call asks beyond

@@ -2,10 +2,34 @@
 
 #![tactic(auto)]
 
-ghost use Rattle.opening.specs.Opened.{Opened};
+ghost use Rattle.opening.specs.Opened.{Begun, Members, Opened};
 
 use network::World;
 use refusals::Refusal;
+
+// The scheme check; 5 if the network does not pass.
+pub fn begin<'a>(scheme: &'a [u8], network: &'a [u8]) -> Result<World<'a>, Refusal>
+    ensures { Begun scheme.entry.now network.entry.now result }
+{
+    let checked = scheme::check(scheme);
+    let Ok(scheme) = checked else {
+        return Err(checked.unwrap_err());
+    };
+    if !validity::valid(&scheme, network) {
+        return Err(Refusal::Network);
+    }
+    Ok(World { scheme, network })
+}
+
+// 6 if v or u is no member.
+pub fn members(world: &World<'_>, v: usize, u: usize) -> Result<(), Refusal>
+    ensures { Members world.now v u result }
+{
+    if v >= world.members() || u >= world.members() {
+        return Err(Refusal::Member);
+    }
+    Ok(())
+}
 
 // The scheme check; 5 if the network does not pass; 6 if v or u is no member.
 pub fn open<'a>(
@@ -16,16 +40,7 @@ pub fn open<'a>(
 ) -> Result<World<'a>, Refusal>
     ensures { Opened scheme.entry.now network.entry.now v u result }
 {
-    let checked = scheme::check(scheme);
-    let Ok(scheme) = checked else {
-        return Err(checked.unwrap_err());
-    };
-    if !validity::valid(&scheme, network) {
-        return Err(Refusal::Network);
-    }
-    let world = World { scheme, network };
-    if v >= world.members() || u >= world.members() {
-        return Err(Refusal::Member);
-    }
+    let world = begin(scheme, network)?;
+    members(&world, v, u)?;
     Ok(world)
 }

@@ -10,9 +10,11 @@ ghost use Rattle.prepared.specs.Reading.{Farthest, SomeOfKind};
 ghost use Rattle.prepared.specs.Prepared.{Measured, Prepared, Written};
 
 mod accessor;
+mod places;
 
 pub use accessor::Accessor;
 use network::World;
+pub use places::Places;
 use rules::Rule;
 use tables::Scheme;
 
@@ -76,23 +78,17 @@ fn write_persons(world: &World<'_>, read: bool, persons: &mut [u64; 4])
 }
 
 // Computes what depends on accessor v alone, as far as a policy of the scheme reads it.
-pub fn prepare(
-    world: &World<'_>,
-    v: usize,
-    distances: &mut [u16; 256],
-    rows: &mut [[u64; 4]; 256],
-    persons: &mut [u64; 4],
-)
+pub fn prepare(world: &World<'_>, v: usize, places: &mut Places)
     requires { v < members_in world.now }
-    ensures prepared { Prepared world.now.scheme.bytes.now world.now.network.now v distances.new rows.new persons.new }
-    ensures written { Written world.now.scheme.bytes.now world.now.network.now v distances.old rows.old persons.old distances.new rows.new persons.new }
+    ensures prepared { Prepared world.now.scheme.bytes.now world.now.network.now v places.new.distances places.new.rows places.new.persons }
+    ensures written { Written world.now.scheme.bytes.now world.now.network.now v places.old.distances places.old.rows places.old.persons places.new.distances places.new.rows places.new.persons }
 {
-    measure(world, v, distances);
+    measure(world, v, &mut places.distances);
     let some = kinds_of(&world.scheme, 0, world.scheme.counts.policies);
-    write_persons(world, some.known, persons);
+    write_persons(world, some.known, &mut places.persons);
     if some.clique {
-        row_table::fill_rows(world, rows);
+        row_table::fill_rows(world, &mut places.rows);
     } else if some.known {
-        rows[v] = rows::friend_row(world, v);
+        places.rows[v] = rows::friend_row(world, v);
     }
 }

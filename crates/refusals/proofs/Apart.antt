@@ -67,9 +67,16 @@ number_above Output = omega arith
 number_above LogRecord = omega arith
 number_above LogLength = omega arith
 
--- answer and count tell a call's results apart
+-- the number, and what a grant tells, tell a call's results apart
+told_apart : {A : Type 0} (x y : Result A Refusal) → answer_of x ≡ answer_of y → ((a b : A) → x ≡ Ok a → y ≡ Ok b → a ≡ b) → x ≡ y
+told_apart (Ok a) (Ok b) e f = ap Ok (f a b refl refl)
+told_apart (Ok a) (Err r) e f = absurd (omega (arith, number_above r))
+told_apart (Err r) (Ok b) e f = absurd (omega (arith, number_above r))
+told_apart (Err r) (Err s) e f = ap Err (number_apart r s e)
+
 pub result_apart : (x y : Result ℕ Refusal) → answer_of x ≡ answer_of y → count_of x ≡ count_of y → x ≡ y
-result_apart (Ok n) (Ok m) e f = ap Ok f
-result_apart (Ok n) (Err r) e f = absurd (omega (arith, number_above r))
-result_apart (Err r) (Ok n) e f = absurd (omega (arith, number_above r))
-result_apart (Err r) (Err s) e f = ap Err (number_apart r s e)
+result_apart x y e f = told_apart x y e (λ a b p q. sym (ap count_of p) ∙ f ∙ ap count_of q)
+
+-- a grant of nothing has the number alone
+pub granted_apart : (x y : Result (Unit {0}) Refusal) → answer_of x ≡ answer_of y → x ≡ y
+granted_apart x y e = told_apart x y e (λ a b p q. refl)

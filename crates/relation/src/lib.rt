@@ -32,8 +32,8 @@ pub fn of_prepared(accessor: &Accessor<'_>, u: usize, asked: Kinds) -> Relation
     let acquaintance = if asked.known {
         known::between(
             accessor.world,
-            accessor.rows,
-            accessor.persons,
+            &accessor.places.rows,
+            &accessor.places.persons,
             u,
             accessor.v,
         )
@@ -41,12 +41,12 @@ pub fn of_prepared(accessor: &Accessor<'_>, u: usize, asked: Kinds) -> Relation
         Acquaintance::Close
     };
     let clique = if asked.clique {
-        clique::largest(accessor.rows, u, accessor.v)
+        clique::largest(&accessor.places.rows, u, accessor.v)
     } else {
         0
     };
     Relation {
-        distance: distance_mark::read(accessor.distances[u]),
+        distance: distance_mark::read(accessor.places.distances[u]),
         acquaintance,
         clique,
     }

@@ -8,6 +8,7 @@ ghost use Rattle.suggestions.specs.Ranks.{Sound, Ranked, RanksBelow};
 ghost use Rattle.suggestions.specs.Answered.{SuggestCalled};
 
 use network::World;
+use prepared::Places;
 use refusals::Refusal;
 
 // What v's ranks are read from, beside whom v finds: who is near, v's friends, the persons, and a table of all rows, if there is one.
@@ -65,7 +66,7 @@ fn write_ranks_for(world: &World<'_>, v: usize, ranks: &mut [u32; 256])
     ensures { RanksBelow (world_in world.now) v (members_in world.now) ranks.new }
 {
     let mut found = [0u16; 256];
-    checks::everyone(world, v, &mut found);
+    checks::everyone(world, v, &mut Places::new(), &mut found);
     let friends = rows::friend_row(world, v);
     let persons = rows::persons(world);
     let near = nearby::members(world, friends, persons);

@@ -7,10 +7,9 @@ use Rattle.model.specs.Answers.{Answers}
 use Rattle.model.specs.SchemeBytes.{scheme_of}
 use Rattle.model.specs.Network.{held}
 use Rattle.model.specs.Requests.{needs, Turn, granted}
-use Rattle.model.specs.Calls.{call_needs, Called}
+use Rattle.model.specs.Calls.{open_needs, call_needs, Called}
 use Rattle.model.specs.Traces.{Trace, Happens}
 use Rattle.model.proofs.Answering.{answers_unique, ahead}
-use Rattle.opening.specs.Opened.{open_needs}
 use Rattle.claims.specs.Cite.{CallMade}
 use Rattle.traces.specs.Ran.{AllRefused}
 use Rattle.claims.proofs.Sound.{sound}

@@ -4,10 +4,9 @@ use Rattle.model.specs.Answers.{Answers}
 use Rattle.model.specs.SchemeBytes.{scheme_of, Accepted}
 use Rattle.model.specs.Network.{fresh, held, Valid}
 use Rattle.model.specs.Requests.{Request, Turn}
-use Rattle.model.specs.Calls.{Fresh}
+use Rattle.model.specs.Calls.{Fresh, open_needs}
 use Rattle.model.specs.Machine.{requests}
 use Rattle.model.specs.Traces.{Trace, turns, last_bytes, Matches, Happens}
-use Rattle.opening.specs.Opened.{open_needs}
 use Rattle.claims.specs.Cite.{CallMade}
 use Rattle.encoded.specs.Encoded.{request_at, places_of}
 

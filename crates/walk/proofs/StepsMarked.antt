@@ -3,7 +3,7 @@ use Prim.Native.Nat.{ℕ, ◌+◌, ◌-◌, ◌<◌, ◌≤◌, min}
 use mathlib.Core.Path.{◌≡◌, refl, sym, ap, subst, ◌∙◌}
 use mathlib.Core.Bool.{Bool, false}
 use mathlib.Core.List.{List, [], ◌∷◌, ◌++◌}
-use mathlib.Core.Logic.{inl, ⊎_elim}
+use mathlib.Core.Logic.{◌⊎◌, inl, ⊎_elim}
 use native.Mathlib.Decide.{dec_lt}
 use native.Mathlib.Omega.{arith}
 use lib.Dec.{eqb}
@@ -101,7 +101,7 @@ module _ {w : World} {v u m : ℕ} {first seen : List ℕ} (h : Chosen w v u m f
   pub still_seen : {i : ℕ} → AllSeen i seen → AllSeen i marked
   still_seen s k a = let y = s k a in ⊎_elim (λ q. omega arith) (λ q. omega arith) (at k)
 
-  pub nobody_else : {low : ℕ} (next : List ℕ) → low ≤ m → ((k : ℕ) → k < low → get_or next k 0 ≡ get_or marked k 0) → NobodyWaits low next
+  pub nobody_else : {low : ℕ} (next : List ℕ) → low ≤ m + 1 → ((k : ℕ) → k < low → get_or next k 0 ≡ get_or marked k 0) → NobodyWaits low next
   nobody_else next b same k a p = let e = same k a in ⊎_elim (λ q. absurd (omega arith)) (λ q. h.nobody k (omega arith) (omega arith)) (at k)
 
   -- the members to whom a chain goes on from m are seen
@@ -150,9 +150,9 @@ module _ {w : World} {v u m : ℕ} {first seen : List ℕ} (h : Chosen w v u m f
         let r = raised k a in
         ⊎_elim (λ q. let e : get_or seen k 0 ≡ 1 = rw q.0 h.waits in omega arith) (λ q. omega arith) (at k))
 
-  -- where m's traversal setting refuses, nobody is added
-  pub none_added : (Allows w m 1 v → ⊥) → StartsAdded w.graph.members (λ k. Goes (paths w) v m k) marked w.graph.members marked
-  none_added n = record { long = simp length-set h.walking.walk.long; added = λ k a g. absurd (n g.2); each = λ k a. inl refl }
+  -- where m's traversal setting refuses, or nobody is unseen, nobody is added
+  pub none_added : (Allows w m 1 v → ⊥) ⊎ AllSeen w.graph.members marked → StartsAdded w.graph.members (λ k. Goes (paths w) v m k) marked w.graph.members marked
+  none_added x = record { long = simp length-set h.walking.walk.long; added = λ k a g. ⊎_elim (λ n. absurd (n g.2)) (λ s. s k a) x; each = λ k a. inl refl }
 
   module _ (allowed : Allows w m 1 v) where
     -- where it admits, its friends are

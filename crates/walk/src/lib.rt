@@ -56,9 +56,10 @@ pub fn walk(accessor: &Accessor<'_>, u: Option<usize>, seen: &mut [u16; 256]) ->
             break 'walk false;
         };
         seen[m] = EXPANDED;
-        low = m;
-        if starts::allows(accessor, m, 1) {
-            first = first_marked(seen, 0, first, members).unwrap_or(members);
+        low = m + 1;
+        first = first_marked(seen, 0, first, members).unwrap_or(members);
+        // Where nobody is unseen, m has nobody to lead to.
+        if first < members && starts::allows(accessor, m, 1) {
             let Some(least) = expand(world, m, u, first, seen) else {
                 break 'walk true;
             };

@@ -1,13 +1,7 @@
-use Rattle.std.proofs.Common.{[], ◌∷◌}
-use Rattle.model.specs.Network.{Valid}
-use Rattle.model.specs.Requests.{BothMembers}
-use Rattle.model.specs.SchemeBytes.{scheme_of, scheme_needs}
-use Rattle.model.proofs.Answering.{ahead}
-use Rattle.refusals.proofs.Apart.{number_above}
+use Rattle.std.proofs.lemmas.Result.{err_from_is_err_and}
 use Rattle.opening.proofs.open.Goals as goal
 
-pub returns-in_default : goal.returns-in_default
-returns-in_default c =
-    let b = c.args.scheme.now in
-    let refused = rw c.unwrap_err.ensures at c.check-checked.ensures in
-    ahead (scheme_needs b) ((5, Valid (scheme_of b) c.args.network.now) ∷ (6, BothMembers (scheme_of b) c.args.v c.args.u) ∷ []) _ (number_above c.unwrap_err.result) refused
+pub returns-in_err-members : goal.returns-in_err-members
+returns-in_err-members c =
+    let p = err_from_is_err_and c.from_residual-in_err-members.result c.from_residual-in_err-members.ensures.1 in
+    rw (p.1, p.2) (rw (c.in_ok-world.ensures.scheme, c.in_ok-world.ensures.network) at c.in_err-members.ensures)

@@ -13,8 +13,8 @@ returns-then-some-clause-prepared c =
     let e = c.args.world.now.ready.counts.members in
     let d = c.args.world.now.ready.counts.policies in
     record {
-      distances_long = c.measure.array_long;
-      rows_long = c.fill_rows.array_long;
+      distances_long = c.measure.array_long.0;
+      rows_long = c.fill_rows.array_long.1;
       near = near c.measure.ensures;
       own_row = λ s. c.fill_rows.ensures.each _ (omega arith);
       all_rows = λ s. c.fill_rows.ensures.each;
@@ -41,10 +41,10 @@ pub returns-then-some-2-clause-prepared : goal.returns-then-some-2-clause-prepar
 returns-then-some-2-clause-prepared c =
     let e = c.args.world.now.ready.counts.policies in
     let m = c.args.world.now.ready.counts.members in
-    let p = row_put c.args.rows.now c.args.v c.friend_row.result (omega (arith, c.told-rows, ready_range c.args.world.now.ready)) in
+    let p = row_put c.args.places.now.rows c.args.v c.friend_row.result (omega (arith, ready_range c.args.world.now.ready)) in
     record {
-      distances_long = c.measure.array_long;
-      rows_long = p.long ∙ c.told-rows;
+      distances_long = c.measure.array_long.0;
+      rows_long = p.long ∙ (omega arith);
       near = near c.measure.ensures;
       own_row = λ s. rw p.here c.friend_row.ensures;
       person_row = λ s. c.write_persons.ensures.read c.if-some-2.true;
@@ -54,7 +54,7 @@ returns-then-some-2-clause-prepared c =
 pub returns-then-some-2-clause-written : goal.returns-then-some-2-clause-written
 returns-then-some-2-clause-written c =
     let m = c.args.world.now.ready.counts.members in
-    let p = row_put c.args.rows.now c.args.v c.friend_row.result (omega (arith, c.told-rows, ready_range c.args.world.now.ready)) in
+    let p = row_put c.args.places.now.rows c.args.v c.friend_row.result (omega (arith, ready_range c.args.world.now.ready)) in
     record {
       limit = c.measure.ensures.limit;
       farthest = c.measure.ensures.farthest;
@@ -71,8 +71,8 @@ pub returns-else-some-2-clause-prepared : goal.returns-else-some-2-clause-prepar
 returns-else-some-2-clause-prepared c =
     let e = c.args.world.now.ready.counts.policies in
     record {
-      distances_long = c.measure.array_long;
-      rows_long = c.told-rows;
+      distances_long = c.measure.array_long.0;
+      rows_long = omega arith;
       near = near c.measure.ensures;
       own_row = λ s. absurd (said_no c.if-some-2.false c.kinds_of-some.ensures.known (some_more 4 _ 0 _ _ (omega arith) s));
       person_row = λ s. absurd (said_no c.if-some-2.false c.kinds_of-some.ensures.known (some_more 4 _ 0 _ _ (omega arith) s));

@@ -1,0 +1,20 @@
+// The places of what is prepared for an accessor, lent from one accessor to the next.
+#[derive(Drop)]
+pub struct Places {
+    pub distances: [u16; 256],
+    pub rows: [[u64; 4]; 256],
+    pub persons: [u64; 4],
+}
+
+impl Places {
+    ghost use Rattle.std.specs.Prelude.{◌≡◌, length};
+
+    // With nothing in them.
+    pub fn new() -> Places {
+        Places {
+            distances: [0; 256],
+            rows: [[0; 4]; 256],
+            persons: [0; 4],
+        }
+    }
+}

@@ -1,0 +1,4 @@
+pub mod Marking
+pub mod Filling
+pub mod Answering
+pub mod Once
