@@ -2,22 +2,25 @@
 
 mod gatekeeper;
 
-/// The standard scheme of four members, and a fresh network.
-fn fresh() -> (Vec<u8>, Vec<u8>) {
+/// The standard scheme of four members, and a fresh network with some settings (member, resource and policy), and some pairs
+/// friends, by their places.
+fn four(settings: &[(usize, usize, usize)], friends: &[usize]) -> (Vec<u8>, Vec<u8>) {
     let scheme = std::fs::read("examples/standard/scheme").expect("no scheme");
     let mut network = vec![0; gatekeeper::network_length(&scheme)];
     assert_eq!(gatekeeper::fresh(&scheme, &mut network), 0);
+    for &(u, r, p) in settings {
+        assert_eq!(gatekeeper::set(&scheme, &mut network, u, r, p), 0);
+    }
+    for &pair in friends {
+        network[pair] = 3;
+    }
     (scheme, network)
 }
 
 /// A number, none and a refusal: 0 and 1 are friends, and 1 and 2, and everyone may search for 3 and traverse 1.
 #[test]
 fn degree() {
-    let (scheme, mut network) = fresh();
-    assert_eq!(gatekeeper::set(&scheme, &mut network, 3, 0, 12), 0);
-    assert_eq!(gatekeeper::set(&scheme, &mut network, 1, 1, 4), 0);
-    network[0] = 3;
-    network[2] = 3;
+    let (scheme, network) = four(&[(3, 0, 12), (1, 1, 4)], &[0, 2]);
     let degree = |v, u| gatekeeper::degree(&scheme, &network, v, u);
     assert_eq!([degree(3, 3), degree(0, 1), degree(0, 2)], [Ok(Some(0)), Ok(Some(1)), Ok(Some(2))]);
     assert_eq!([degree(0, 3), degree(3, 0), degree(0, 4)], [Ok(None), Err(9), Err(6)]);
@@ -26,13 +29,7 @@ fn degree() {
 /// The first c, all where there are fewer, and refusals: 1 has the friends 0, 2 and 3, and everyone may search for 2 and 3.
 #[test]
 fn suggest() {
-    let (scheme, mut network) = fresh();
-    for m in [2, 3] {
-        assert_eq!(gatekeeper::set(&scheme, &mut network, m, 0, 12), 0);
-    }
-    for pair in [0, 2, 4] {
-        network[pair] = 3;
-    }
+    let (scheme, network) = four(&[(2, 0, 12), (3, 0, 12)], &[0, 2, 4]);
     let suggest = |v, c| {
         let mut output = [9; 3];
         (gatekeeper::suggest(&scheme, &network, v, c, &mut output), output)
@@ -50,11 +47,7 @@ fn questions(asked: &[(usize, usize, usize)], answer: u8) -> Vec<gatekeeper::Que
 /// traverse 1.
 #[test]
 fn views() {
-    let (scheme, mut network) = fresh();
-    assert_eq!(gatekeeper::set(&scheme, &mut network, 1, 1, 4), 0);
-    assert_eq!(gatekeeper::set(&scheme, &mut network, 2, 7, 3), 0);
-    network[0] = 3;
-    network[2] = 3;
+    let (scheme, network) = four(&[(1, 1, 4), (2, 7, 3)], &[0, 2]);
     let far = usize::MAX;
     let asked = [(0, 2, 1), (0, 3, 1), (3, 2, 1), (0, 2, 2), (4, 2, 1), (0, far, 1), (0, 2, 3), (far, far, far), (0, 2, 1)];
     let wanted = [0, 9, 9, 11, 6, 6, 7, 6, 0];
@@ -76,13 +69,7 @@ fn views() {
 /// A sixth record after the five of the standard scheme: 1 has the friends 0, 2 and 3, and everyone may search for 2 and 3.
 #[test]
 fn groups() {
-    let (scheme, mut network) = fresh();
-    for m in [2, 3] {
-        assert_eq!(gatekeeper::set(&scheme, &mut network, m, 0, 12), 0);
-    }
-    for pair in [0, 2, 4] {
-        network[pair] = 3;
-    }
+    let (scheme, network) = four(&[(2, 0, 12), (3, 0, 12)], &[0, 2, 4]);
     let with = |sixth: &[u8]| [&scheme[..], sixth].concat();
     let suggested = |groups: [u8; 4]| {
         let mut output = [9; 2];

@@ -10,7 +10,7 @@ ghost use Rattle.model.specs.Graph.{Friends};
 ghost use Rattle.model.specs.SchemeBytes.{n, A, I};
 ghost use Rattle.network.specs.Worlds.{members_in, resources_in, world_in, graph_in};
 ghost use Rattle.prepared.specs.Asking.{world_asked};
-ghost use Rattle.prepared.specs.Prepared.{Prepared};
+ghost use Rattle.prepared.specs.Prepared.{Prepared, Written};
 ghost use Rattle.finding.specs.Everyone.{Everyone};
 ghost use Rattle.checks.specs.Asked.{asking_in};
 ghost use Rattle.checks.specs.Judged.{Judged};
@@ -59,6 +59,7 @@ pub fn found(world: &World<'_>, v: usize, u: usize) -> bool
 pub fn everyone(world: &World<'_>, v: usize, places: &mut Places, found: &mut [u16; 256])
     requires { v < members_in world.now }
     ensures prepared { Prepared world.now.scheme.bytes.now world.now.network.now v places.new.distances places.new.rows places.new.persons }
+    ensures written { Written world.now.scheme.bytes.now world.now.network.now v places.old.distances places.old.rows places.old.persons places.new.distances places.new.rows places.new.persons }
     ensures found { Everyone (world_in world.now) v found.new }
 {
     prepared::prepare(world, v, places);

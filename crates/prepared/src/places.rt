@@ -7,10 +7,12 @@ pub struct Places {
 }
 
 impl Places {
-    ghost use Rattle.std.specs.Prelude.{◌≡◌, length};
+    ghost use Rattle.std.specs.Prelude.{◌≡◌, replicate};
 
-    // With nothing in them.
-    pub fn new() -> Places {
+    // With zeros in them.
+    pub fn new() -> Places
+        ensures { result ≡ record { distances = replicate 256 0; rows = replicate 256 (replicate 4 0); persons = replicate 4 0 } }
+    {
         Places {
             distances: [0; 256],
             rows: [[0; 4]; 256],
