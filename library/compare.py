@@ -1,6 +1,7 @@
 #!/usr/bin/env python3
-"""Compares the calls with tools/reference.py on random schemes, with groups and without, and networks, valid and damaged. It
-stops at the first difference."""
+"""Compares the calls with tools/reference.py on random schemes, with groups and without, and networks, valid and damaged. After
+requests from fresh networks under the standard scheme it compares who are friends by the network's bytes with who are by the
+requests and the calls' answers alone. It stops at the first difference."""
 import ctypes
 import os
 import random
@@ -21,8 +22,8 @@ NONE = 65535            # what stands in the place lent for a degree
 LARGEST = 2 ** 64 - 1
 FAR = (2 ** 8, 2 ** 16, 2 ** 32, LARGEST)
 LISTS = 3               # of questions, for each scheme
-FEWEST = 40             # how often each kind of scheme, degree, suggestions, list of questions and question has to occur
-schemes, degrees, pages, lists, questions = Counter(), Counter(), Counter(), Counter(), Counter()
+FEWEST = 40             # how often each kind of what is counted has to occur
+schemes, degrees, pages, lists, questions, events, consents = (Counter() for _ in range(7))
 
 
 def expect(what, got, wanted):
@@ -174,20 +175,72 @@ def compare_scheme(rng):
     expect('network', ours, wanted)
 
 
+def consent_request(rng, scheme, network, members, acting):
+    """A request under the standard scheme: often an event of some members, granted if one of some tries is; or any."""
+    if rng.randrange(4) and len(acting) > 1:
+        tries = [(*rng.sample(acting, 2), rng.randrange(4)) for _ in range(8)]
+        granted = (event for event in tries if gatekeeper.event(scheme, bytearray(network), *event) == 0)
+        return ('event', *next(granted, tries[0]))
+    x, y, z, p = rng.choice([*acting, members]), rng.choice([*acting, members]), rng.randrange(10), rng.randrange(14)
+    return rng.choice([('event', x, y, z), ('event', x, y, z % 4), ('set', x, z, p), ('set', x, z % 3, p), ('find', x, y),
+                       ('list', x, y), ('view', x, y, z % 4)])
+
+
+def answer_of(scheme, network, members, name, *arguments):
+    if name == 'list':
+        return gatekeeper.list(scheme, network, *arguments, array('H', [UNTOUCHED] * members))[0]
+    return getattr(gatekeeper, name)(scheme, network, *arguments)
+
+
+def count_pair(answered, v, u):
+    """By whether two members are friends, or else by the last granted event between them."""
+    granted = ref.granted_between(answered, v, u)
+    consents['friends' if ref.friends_by_consent(answered, v, u) else ref.EVENTS[granted[-1][1]] if granted else 'no event'] += 1
+
+
+def compare_consent(rng):
+    """After requests from a fresh network under the standard scheme, of all pairs of members: whether the network's bytes make
+    them friends, and whether the requests and the calls' answers do."""
+    members = rng.choice([1, 2, 3, 4, 5, 8, 65])
+    acting = sorted({members - 1, *rng.sample(range(members), min(members, 4))})
+    scheme = ref.standard_scheme(members)
+    network = bytearray(rng.randbytes(gatekeeper.network_length(scheme)))
+    expect('fresh', gatekeeper.fresh(scheme, network), 0)
+    opened = ((ref.SEARCH, 12), (ref.TRAVERSAL, 4), (ref.PRIMITIVES + ref.INVITE, 4))
+    opening = [('set', m, r, p) for m in acting for r, p in opened]
+    answered = []
+    for i in range(len(opening) + rng.randrange(6 * len(acting) ** 2)):
+        request = opening[i] if i < len(opening) else consent_request(rng, scheme, network, members, acting)
+        answered.append((request, answer_of(scheme, network, members, *request)))
+        if request[0] == 'event' and request[3] < len(ref.EVENTS):
+            events[ref.EVENTS[request[3]] + ('' if answered[-1][1] == 0 else ' refused')] += 1
+    read = ref.read_scheme(scheme)[1]
+    expect('validity', ref.is_valid(read, network), True)
+    graph = ref.Network(read, network).graph
+    for v, u in product(range(members), repeat=2):
+        expect('friends %d and %d' % (v, u), u in graph[v], ref.friends_by_consent(answered, v, u))
+        if v < u:
+            count_pair(answered, v, u)
+
+
 def main():
     rng = random.Random(1)
     for _ in range(ROUNDS):
         compare_scheme(rng)
+    for _ in range(ROUNDS):
+        compare_consent(rng)
     for what, counted, kinds in (('schemes', schemes, ('refused', 'five records', 'persons', 'groups')),
                                  ('degrees', degrees, ('number', 'none', 'refused')),
                                  ('suggestions', pages, ('c', 'fewer', 'nobody', 'refused', 'by groups')),
                                  ('lists', lists, ('answered', 'answered, empty', 'refused', 'refused, empty')),
                                  ('questions', questions, (0, 6, 7, 9, 11, 'same viewer', 'viewer of before', 'new viewer',
-                                                           'another answer for the viewer before'))):
+                                                           'another answer for the viewer before')),
+                                 ('events', events, ref.EVENTS + tuple(event + ' refused' for event in ref.EVENTS)),
+                                 ('pairs', consents, ('friends', 'invite', 'ignore', 'remove', 'no event'))):
         if min(counted[kind] for kind in kinds) < FEWEST:
             sys.exit('too few %s of a kind: %s' % (what, dict(counted)))
-    print('library: %d random schemes with %d requests, degrees, suggestions and lists of views each answer as reference.py does'
-          % (ROUNDS, REQUESTS))
+    print('library: %d random schemes with %d requests, degrees, suggestions and lists of views each answer as reference.py '
+          'does, and %d lists of requests make friends by consent' % (ROUNDS, REQUESTS, ROUNDS))
 
 
 if __name__ == '__main__':

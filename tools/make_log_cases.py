@@ -8,12 +8,12 @@ Its lines, K being its number from 1:
 """
 import sys
 from collections import Counter
-from itertools import islice
+from itertools import islice, product
 
 sys.dont_write_bytecode = True      # no __pycache__ in the repository
 import reference as ref
-from cases import (EVERYONE, NO_ONE, OWNER, known, accepted_scheme, changed, damaged, part, random_counts, random_groups,
-                   regrouped, stop_where_few, write)
+from cases import (EVERYONE, NO_ONE, OWNER, known, accepted_scheme, changed, damaged, fresh_network, part, random_counts,
+                   random_groups, regrouped, stop_where_few, write)
 from make_request_cases import (CALLS, broken_groups, broken_schemes, every_end, opening, random_requests, search_by_everyone,
                                 standard_scheme, walking_scheme)
 
@@ -23,6 +23,15 @@ FIVE_RECORDS = 530  # and of one without a sixth record
 SIXTH = ('five records', 'a sixth record of persons', 'a sixth record with groups')
 OTHERWISE = ('logs with other lines without groups', 'other lines without groups')
 GROUPED = Counter({name: 0 for name in SIXTH + OTHERWISE})
+
+BEFORE = ('no granted event',) + tuple('%s by %s' % made for made in product(ref.EVENTS, ('it', 'the other')))
+REFUSALS = (6, 7, 8, 9, 10, 11)
+TRIED, REFUSED, LISTED, APART = '%s after %s', 'event refused with %d', 'pairs listed as friends', 'pairs not listed, after %s'
+BETWEEN, NOT_EVEN_REFUSED = 'accept granted, other pairs since the invite', 'no event at all'
+CONSENT = Counter({name: 0 for name in (
+    LISTED, BETWEEN, *(APART % last for last in BEFORE if 'accept' not in last), APART % NOT_EVEN_REFUSED,
+    *(REFUSED % answer for answer in REFUSALS), *(TRIED % (event, last) for event, last in product(ref.EVENTS, BEFORE)))})
+COMPARED = Counter({'lists under the standard scheme': 0})
 
 
 # ---- Logs
@@ -261,11 +270,161 @@ def friend_counts(rng):
         yield one_step_scheme(n), log_of(asked + [(19, middle, others[0]), (19, others[0], others[-1])])
 
 
+# ---- Consent: logs under the standard scheme, and who are friends by their requests and answers alone
+
+class Exchange:
+    """n members under the standard scheme, from a fresh network, with what they have asked and what was answered."""
+
+    def __init__(self, n):
+        self.n = n
+        self.scheme = ref.standard_scheme(n)
+        self.network = bytearray(fresh_network(self.scheme))
+        self.answered = []      # (request, answer)
+
+    def ask(self, *request):
+        line = ref.answer_line(self.scheme, self.network, request)
+        self.answered.append((request, int(line.split()[0])))
+
+    def grants(self, event):
+        return ref.event(self.scheme, bytearray(self.network), *event) == 0
+
+    def open(self, m):
+        """m may be found and invited by everyone, and lists its friends for itself."""
+        for r, p in ((ref.SEARCH, 12), (ref.TRAVERSAL, 1), (ref.PRIMITIVES + ref.INVITE, 4)):
+            self.ask('set', m, r, p)
+
+    def log(self):
+        return ref.build_log(request for request, _ in self.answered)
+
+
+# Granted events between two members, 0 the one and 1 the other. One invites after an ignore or a remove of its own, and after one
+# of the other; who removes has invited, or has accepted.
+COURSE = ((0, ref.INVITE), (1, ref.IGNORE), (1, ref.INVITE), (0, ref.ACCEPT), (0, ref.REMOVE), (0, ref.INVITE), (1, ref.ACCEPT),
+          (0, ref.REMOVE), (1, ref.INVITE), (0, ref.IGNORE), (1, ref.INVITE), (0, ref.ACCEPT), (1, ref.REMOVE))
+
+
+def whole_course(exchange, pair):
+    """The two go through the course. Before each step every event between them that would be refused is asked, and both list
+    their friends."""
+    events = [(v, u, a) for v, u in (pair, pair[::-1]) for a in range(4)]
+    for one, a in COURSE:
+        for event in events:
+            if not exchange.grants(event):
+                exchange.ask('event', *event)
+        for m in pair:
+            exchange.ask('list', m, m)
+        exchange.ask('event', pair[one], pair[1 - one], a)
+
+
+def odd_event(rng, exchange, v, u, a):
+    """The event with a number out of range, or towards who acts."""
+    far = exchange.n + rng.choice([0, 1, 255, 256])
+    return rng.choice([(far, u, a), (v, far, a), (v, u, rng.choice([4, 5, 255])), (v, u, 4), (v, v, a), (u, u, a)])
+
+
+def some_event(rng, exchange, members):
+    """An event between two of these members; every second one is granted, if one of some tries is."""
+    tries = [(*rng.sample(members, 2), rng.randrange(4)) for _ in range(6)]
+    if rng.random() < 0.15:
+        return odd_event(rng, exchange, *tries[0])
+    return next(filter(exchange.grants, tries), tries[0]) if rng.randrange(2) else tries[0]
+
+
+# of search, traversal and invite; with each of them a member still lists its friends for itself
+SETTINGS = [(0, 8), (0, 11), (0, 12), (0, 12), (1, 1), (1, 3), (1, 4), (2, 0), (2, 0), (2, 3), (2, 4), (2, 4)]
+
+
+def mixed_courses(rng, exchange, members, count):
+    """Events between all these members, each with a list of friends, and now and then a setting; at the end, all list theirs."""
+    for _ in range(count):
+        v, u, a = some_event(rng, exchange, members)
+        exchange.ask('event', v, u, a)
+        exchange.ask('list', *rng.choice([(v, v), (u, u), (u, u), rng.choices(members, k=2)]))
+        if rng.random() < 0.2:
+            exchange.ask('set', rng.choice(members), *rng.choice(SETTINGS))
+    for m in members:
+        exchange.ask('list', m, m)
+
+
+def alone(exchange):
+    """One member: every event is refused."""
+    for a in range(5):
+        for v, u in product(range(2), repeat=2):
+            exchange.ask('event', v, u, a)
+        exchange.ask('list', 0, 0)
+
+
+def consented_logs(rng):
+    """Two members go through the course; and several members mix their events, in networks of many sizes."""
+    for n, one, other in ((1, 0, 0), (2, 0, 1), (3, 2, 0), (4, 1, 2), (5, 4, 1), (9, 3, 8), (65, 64, 63), (256, 0, 255)):
+        exchange = Exchange(n)
+        for m in sorted({one, other}):
+            exchange.open(m)
+        if n == 1:
+            alone(exchange)
+        else:
+            whole_course(exchange, (one, other))
+            if n < 10:
+                whole_course(exchange, (other, one))
+        yield noted(exchange)
+    for n, count in ((2, 50), (3, 70), (4, 130), (4, 130), (5, 130), (9, 100), (33, 60), (64, 60), (129, 60), (256, 40)):
+        exchange = Exchange(n)
+        members = sorted({0, n - 1, *rng.sample(range(n), min(n, 3))})
+        exchange.ask('event', *rng.sample(members, 2), ref.INVITE)
+        for m in members:
+            exchange.open(m)
+        mixed_courses(rng, exchange, members, count)
+        yield noted(exchange)
+
+
+def last_between(answered, v, u):
+    """The last granted event between two members, v being it."""
+    granted = ref.granted_between(answered, v, u)
+    if not granted:
+        return BEFORE[0]
+    who, a = granted[-1]
+    return '%s by %s' % (ref.EVENTS[a], 'it' if who == v else 'the other')
+
+
+def note_pair(answered, v, u):
+    """Counts two members, one of whom is listed: as friends, or by what has happened between them."""
+    if ref.friends_by_consent(answered, v, u):
+        CONSENT[LISTED] += 1
+        return
+    last = last_between(answered, v, u)
+    tried = any(request[0] == 'event' and set(request[1:3]) == {v, u} for request, _ in answered)
+    CONSENT[APART % (NOT_EVEN_REFUSED if last == BEFORE[0] and not tried else last)] += 1
+
+
+def note_event(answered, v, u, a, answer):
+    """Counts an event: by what has happened between the two, where that decides; and by its refusal."""
+    if answer in (0, 10):
+        CONSENT[TRIED % (ref.EVENTS[a], last_between(answered, v, u))] += 1
+    if answer != 0:
+        CONSENT[REFUSED % answer] += 1
+    elif a == ref.ACCEPT:
+        last = [request for request, given in answered if request[0] == 'event' and given == 0][-1]
+        CONSENT[BETWEEN] += set(last[1:3]) != {v, u}
+
+
+def noted(exchange):
+    """The case; its events are counted, and of each granted list the pairs of its owner with all others."""
+    for place, (request, answer) in enumerate(exchange.answered):
+        name, *arguments = request
+        before = exchange.answered[:place]
+        if name == 'event':
+            note_event(before, *arguments, answer)
+        elif name == 'list' and answer == 0:
+            for m in sorted({*range(exchange.n)} - {arguments[1]}):
+                note_pair(before, arguments[1], m)
+    return exchange.scheme, exchange.log()
+
+
 # ---- What is written
 
-# the long ones stand last
+# the long ones stand last, and behind them what came later
 GROUPS = [sessions, edges, cut_logs, wrong_kinds, wrong_lengths, bytes_behind, damaged_logs, refused_schemes, long_schemes, ends,
-          random_logs, guided_logs, vouched_logs, sizes, long_logs, friend_counts]
+          random_logs, guided_logs, vouched_logs, sizes, long_logs, friend_counts, consented_logs]
 
 
 def given(scheme, log):
@@ -285,17 +444,41 @@ def note_groups(scheme, log, printed):
         GROUPED[OTHERWISE[1]] += sum(line != other for line, other in zip(printed, without))
 
 
+def answers(log, printed):
+    """Of each line, the request, None where there is none, the answer, and the members behind it."""
+    place = 0
+    for line in printed:
+        position, answer, *members = map(int, line.split())
+        request = None
+        if position != 0:
+            _, request, place = ref.next_request(log, place)
+        yield request, answer, members
+
+
+def compare_by_consent(number, scheme, log, printed):
+    """Under the standard scheme, stops where a list has other members than those whom the lines before it make friends."""
+    read = ref.read_scheme(scheme)[1]
+    if read is None or scheme != ref.standard_scheme(read.counts.members):
+        return
+    answered = []
+    for request, answer, members in answers(log, printed):
+        if request and request[0] == 'list' and answer == 0:
+            COMPARED['lists under the standard scheme'] += 1
+            friends = [m for m in range(read.counts.members) if ref.friends_by_consent(answered, request[2], m)]
+            if members != friends:
+                sys.exit('case %d, line %d: listed are %s, and friends by consent are %s'
+                         % (number, len(answered) + 1, members, friends))
+        if request:
+            answered.append((request, answer))
+
+
 def lines(number, tally, scheme, log):
     printed = ref.run(scheme, log)
     note_groups(scheme, log, printed)
-    place = 0
-    for line in printed:
-        position, answer, *friends = map(int, line.split())
-        if position == 0:
-            tally['%s %2d' % ('log' if answer == 15 else 'scheme', answer)] += 1
-            continue
-        _, request, place = ref.next_request(log, place)
-        tally['%s %2d' % (request[0] if request else 'record', answer)] += 1
+    compare_by_consent(number, scheme, log, printed)
+    for line, (request, answer, _) in zip(printed, answers(log, printed)):
+        what = request[0] if request else 'record' if line[0] != '0' else 'log' if answer == 15 else 'scheme'
+        tally['%s %2d' % (what, answer)] += 1
     if not printed:
         tally['no line'] += 1
     yield from printed
@@ -318,3 +501,5 @@ if __name__ == '__main__':
         if total[entry] < fewest:
             sys.exit('too few: %s' % entry)
     stop_where_few(GROUPED, FEWEST)
+    stop_where_few(CONSENT, FEWEST)
+    stop_where_few(COMPARED, FEWEST)

@@ -1,8 +1,9 @@
 #!/usr/bin/env python3
-"""The gatekeeper of document 01 with document 02's calls degree, suggest and views and its groups, written from their text alone,
-to compare the proved program with.
+"""The gatekeeper of document 01 with document 02's calls degree, suggest and views, its groups and its rule of consent, written
+from their text alone, to compare the proved program with.
 
-With no arguments: a self check on document 01's session and edges, and on a few degrees, suggestions, groups and lists of views.
+With no arguments: a self check on document 01's session and edges, and on a few degrees, suggestions, groups, lists of views and
+events of two members.
 With two file names: the log program, on that scheme and those requests.
 """
 import sys
@@ -508,6 +509,31 @@ def run(scheme_bytes, log):
         lines.append(position + answer_line(scheme_bytes, network, request))
 
 
+# ---- Consent (document 02, 2026-06): who are friends under the standard scheme, by requests from a fresh network and their
+# answers alone. answered: (request, answer) pairs in order, a request as next_request gives it
+
+INVITE, ACCEPT, IGNORE, REMOVE = range(4)       # the primitives of the standard scheme
+EVENTS = ('invite', 'accept', 'ignore', 'remove')
+
+
+def granted_between(answered, v, u):
+    """The granted events between two members in order, whichever of them acts: each (who acts, primitive)."""
+    return [(request[1], request[3]) for request, answer in answered
+            if request[0] == 'event' and answer == 0 and set(request[1:3]) == {v, u}]
+
+
+def friends_by_consent(answered, v, u):
+    """Whether the last granted event between two members is an accept. ValueError where the one just before it is not an invite
+    from the other side."""
+    granted = granted_between(answered, v, u)
+    if not granted or granted[-1][1] != ACCEPT:
+        return False
+    accepting = granted[-1][0]
+    if granted[-2:-1] != [(u if accepting == v else v, INVITE)]:
+        raise ValueError('no invite from the other side just before the accept of member %d: %s' % (accepting, granted))
+    return True
+
+
 # ---- Building bytes
 
 def record(kind, body):
@@ -676,6 +702,46 @@ def check_views(expect):
         expect(what + ', no scheme', answers(b'', network, questions), (1, [99] * len(said), True))
 
 
+def check_consent(expect):
+    """The friends after each line of the session, by consent and by the network's bytes."""
+    scheme = standard_scheme(4)
+    network = bytearray(fresh_bytes(read_scheme(scheme)[1]))
+    answered, by_consent, by_bytes = [], [], []
+    for text, _ in SESSION:
+        request = parsed(text)
+        answered.append((request, int(answer_line(scheme, network, request).split()[0])))
+        graph = Network(read_scheme(scheme)[1], network).graph
+        by_consent.append([(i, j) for i, j in combinations(range(4), 2) if friends_by_consent(answered, i, j)])
+        by_bytes.append([(i, j) for i, j in combinations(range(4), 2) if j in graph[i]])
+    expect('friends after line 14', (by_consent[13], by_bytes[13]), ([(0, 1)], [(0, 1)]))
+    expect('friends after line 16', (by_consent[15], by_bytes[15]), ([], []))
+    expect('friends, by consent', by_consent, 6 * [[]] + 8 * [[(0, 1)]] + 2 * [[]])
+    expect('friends, by bytes', by_bytes, by_consent)
+
+
+def check_invented_consent(expect):
+    """What consent says of 0 and 1 after invented events: each (who acts, towards whom, primitive, answer)."""
+    def told(*events):
+        try:
+            return friends_by_consent([(('event', v, u, a), answer) for v, u, a, answer in events], 0, 1)
+        except ValueError:
+            return 'no invite'
+
+    invite, accept = (0, 1, INVITE, 0), (1, 0, ACCEPT, 0)
+    for what, events, wanted in (
+            ('none', [], False), ('invite', [invite], False), ('invite, accept', [invite, accept], True),
+            ('and refused ones between', [invite, (1, 0, IGNORE, 11), (0, 1, ACCEPT, 10), accept, (0, 1, REMOVE, 9)], True),
+            ('accept refused', [invite, (1, 0, ACCEPT, 10)], False), ('of others', [(0, 2, INVITE, 0), (2, 0, ACCEPT, 0)], False),
+            ('of others between', [invite, (2, 0, INVITE, 0), (1, 2, REMOVE, 0), accept, (0, 2, REMOVE, 0)], True),
+            ('then remove', [invite, accept, (0, 1, REMOVE, 0)], False), ('then invite', [invite, accept, invite], False),
+            ('ignore', [invite, (1, 0, IGNORE, 0)], False), ('accept alone', [accept], 'no invite'),
+            ('accept of the inviter', [invite, (0, 1, ACCEPT, 0)], 'no invite'),
+            ('accept twice', [invite, accept, accept], 'no invite'),
+            ('ignore between', [invite, (1, 0, IGNORE, 0), accept], 'no invite'),
+            ('invite refused', [(0, 1, INVITE, 11), accept], 'no invite')):
+        expect('consent, ' + what, told(*events), wanted)
+
+
 def self_check():
     failures = 0
 
@@ -709,7 +775,7 @@ def self_check():
     network[pair_place(0, 2)] = 3
     expect('degree 0 3, by 2', degree(scheme, network, 0, 3), (0, 2))
     expect('degree 0 2, friends', degree(scheme, network, 0, 2), (0, 1))
-    for more in (check_suggestions, check_sixth_record, check_groups, check_views):
+    for more in (check_suggestions, check_sixth_record, check_groups, check_views, check_consent, check_invented_consent):
         more(expect)
     expect('longest network', network_length(LIMITS), 39296)
     print('%d differ' % failures)

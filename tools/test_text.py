@@ -370,7 +370,7 @@ LOG_FAULTS = [
 
 class Examples(unittest.TestCase):
     def test_examples(self):
-        for name in ('groups', 'staged', 'standard'):
+        for name in ('consent', 'groups', 'staged', 'standard'):
             folder = os.path.join(EXAMPLES, name)
             names, scheme = parse_scheme('scheme.txt', content(folder, 'scheme.txt'))
             log = parse_log('requests.txt', content(folder, 'requests.txt'), names)
@@ -396,6 +396,25 @@ class Examples(unittest.TestCase):
         self.assertEqual([pair for pair in zip(with_groups, without) if pair[0] != pair[1]],
                          [('%d 11' % place, '%d 0' % place) for place in marked])
         self.assertGreater(len(marked), 5)
+
+    def test_consent(self):
+        """Each list has the friends that the requests and answers before it make. All four primitives are granted, invites and
+        accepts also refused."""
+        self.assertEqual(content(EXAMPLES, 'consent', 'scheme'), ref.standard_scheme(3))
+        requests = read_log(content(EXAMPLES, 'consent', 'requests'))[0]
+        lines = [[int(word) for word in line.split()] for line in content(EXAMPLES, 'consent', 'answers').decode().splitlines()]
+        self.assertEqual(len(lines), len(requests))
+        answered, lengths, events = [], set(), set()
+        for request, (place, answer, *friends) in zip(requests, lines):
+            if request[0] == 'list':
+                by_consent = [m for m in range(3) if ref.friends_by_consent(answered, request[2], m)]
+                self.assertEqual((answer, friends), (0, by_consent), place)
+                lengths.add(len(friends))
+            elif request[0] == 'event':
+                events.add((request[3], answer))
+            answered.append((request, answer))
+        self.assertEqual(lengths, {0, 1, 2})
+        self.assertEqual(events, {(a, 0) for a in range(4)} | {(ref.INVITE, 10), (ref.ACCEPT, 10)})
 
     def test_standard(self):
         self.assertEqual(content(EXAMPLES, 'standard', 'scheme'), ref.standard_scheme(4))

@@ -2,7 +2,7 @@
 """Schemes and logs as text for people.
 
 A folder holds scheme.txt and requests.txt, the texts, and scheme and requests, the bytes that the log program reads.
-scheme_text.py and log_text.py say how the texts are written; examples/ has three folders.
+scheme_text.py and log_text.py say how the texts are written; examples/ has four folders.
 
 What a resource has at first, its default, is the policy of its list whose line `policy NAME: ..` stands first in the scheme, in
 whatever order the list has them.

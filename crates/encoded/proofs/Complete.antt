@@ -4,8 +4,10 @@ use Rattle.std.proofs.lemmas.List.{length-replicate}
 use Rattle.model.specs.Requests.{Request, event, set_policy, find, list, view, Turn}
 use Rattle.model.specs.Calls.{Called, Left}
 use Rattle.model.specs.HiddenRecipe.{HiddenRecipe}
+use Rattle.model.specs.Consent.{SessionConsent}
 use Rattle.model.proofs.Leaving.{none_granted, front_only}
 use Rattle.model.proofs.HiddenRecipe.{hidden_recipe}
+use Rattle.model.proofs.Consented.{session_consent}
 use Rattle.kinds.specs.Kinds.{request_of}
 use Rattle.kinds.specs.declared.Request.{Request as Asked}
 use Rattle.kinds.specs.declared.Request.TheVariants.{Event, Set, Find, List as ListOf, View}
@@ -55,3 +57,7 @@ complete b net t after k = complete_of b net t.request t.answer t.written after 
 -- the two lists, and what the claims say of them, as calls of the program
 pub hidden_recipe_called : HiddenRecipe CallMade
 hidden_recipe_called = hidden_recipe CallMade sound complete
+
+-- and the session, with what its events tell of consent
+pub session_consent_called : SessionConsent CallMade
+session_consent_called = session_consent CallMade sound complete

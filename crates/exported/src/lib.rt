@@ -1,8 +1,9 @@
-// The claims about every list of exported calls (document 01, "Demand 3's plain machine").
+// The claims about every list of exported calls (document 01, "Demand 3's plain machine"; document 02, 2026-06).
 
 #![tactic(auto)]
 
 ghost use Rattle.model.specs.Claims.{FromFresh, FromValid, EveryTrace, RunsReplayed, ViewGranted, ItemsUnseen};
+ghost use Rattle.model.specs.Consent.{ConsentOnRecord};
 ghost use Rattle.exported.specs.Cite.{ExportedCall};
 
 // As `claims::claims`, for the calls of `gatekeeper`.
@@ -15,4 +16,5 @@ pub fn claims()
     ensures runs_replayed_from { RunsReplayed ExportedCall FromValid }
     ensures view_granted_from { ViewGranted ExportedCall FromValid }
     ensures items_unseen_from { ItemsUnseen ExportedCall FromValid }
+    ensures consent_on_record { ConsentOnRecord ExportedCall }
 {}

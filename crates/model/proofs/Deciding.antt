@@ -65,6 +65,14 @@ is_not {b} {P} d n = go b d.yes_if
     go true y = absurd (n (y refl))
     go false y = refl
 
+-- two tests of one proposition are the same
+pub says_once : {b b' : Bool} {P : Type 0} → Says b P → Says b' P → b ≡ b'
+says_once {b} {b'} {P} d d' = go b d.yes_if d.no_if
+  where
+    go : (t : Bool) → (t ≡ true → P) → (t ≡ false → P → ⊥) → t ≡ b'
+    go true y n = sym (is_so d' (y refl))
+    go false y n = sym (is_not d' (n refl))
+
 pub iff : {b : Bool} {P Q : Type 0} → (P → Q) → (Q → P) → Says b P → Says b Q
 iff f g d = record { yes_if = λ e. f (d.yes_if e); no_if = λ e q. d.no_if e (g q) }
 

@@ -174,7 +174,7 @@ refused_byte : (x y z w m : ℕ) → m < 4 → 2 ≤ byte (standard_bytes 4 ++ s
 refused_byte x y z w m l h =
     let more : List ℕ = sixth 6 4 (x ∷ y ∷ z ∷ w ∷ []) in
     inr
-    (head 4 more, inr (counts 4 more (omega arith) (omega arith), inr (records 4 more (inr ((omega arith, refl, refl), refl)), inl (λ f. omega (arith, h, f.groups m l), refl))))
+    (head 4 more, inr (counts 4 more (omega arith) (omega arith), inr (records 4 more (inr ((omega arith, refl, refl), omega arith)), inl (λ f. omega (arith, h, f.groups m l), refl))))
 
 abbrev one_group : List ℕ
 one_group = sixth 6 4 (0 ∷ 1 ∷ 0 ∷ 0 ∷ [])
@@ -200,7 +200,7 @@ sixth_record = record {
         head 4 one_group,
         inr (
           counts 4 one_group (omega arith) (omega arith),
-          inr (records 4 one_group (inr ((omega arith, refl, refl), refl)), inr (bytes_fit 4 one_group fit, inr (strangers_apart 4 one_group, refl))),
+          inr (records 4 one_group (inr ((omega arith, refl, refl), omega arith)), inr (bytes_fit 4 one_group fit, inr (strangers_apart 4 one_group, refl))),
         ),
       );
   read = sixth_read;

@@ -31,7 +31,7 @@ past_end b r m l = go r.groups
   where
     go : Sixth b → byte b (at6 b + 4 + m) ≡ 0
     go (inl e) = let h : length b ≤ at6 b + 4 + m = omega (arith, e) in get_or-eq_default b 0 h
-    go (inr (p, e)) = let h : length b ≤ at6 b + 4 + m = omega (arith, e, l) in get_or-eq_default b 0 h
+    go (inr s) = let h : length b ≤ at6 b + 4 + m = omega (arith, s, l) in get_or-eq_default b 0 h
 
 -- nobody but a member is a group
 pub group_member : (b : List ℕ) → Records b → (m : ℕ) → n b ≤ m → (scheme_of b).group m ≡ false

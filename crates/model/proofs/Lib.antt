@@ -42,3 +42,6 @@ pub mod Happening
 pub mod Similarity
 pub mod HiddenRecipe
 pub mod SessionTexts
+-- consent on record
+pub mod Consenting
+pub mod Consented

@@ -63,7 +63,7 @@ longest_accepted =
             friends = (omega arith, refl, refl);
             policies = (omega arith, refl, refl);
             masks = (omega arith, refl, refl);
-            groups = inr ((omega arith, refl, refl), refl);
+            groups = inr ((omega arith, refl, refl), omega arith);
           },
           (
             record {

@@ -29,7 +29,7 @@ all_small b c r = go r.groups
   where
     go : Sixth b → length b ≤ longest_scheme
     go (inl e) = omega (arith, e, five_small b c)
-    go (inr (h, e)) = omega (arith, e, five_small b c, c.members.1)
+    go (inr s) = omega (arith, s, five_small b c, c.members.1)
 
 pub fits : (b : List ℕ) → Accepted b → length b ≤ longest_scheme
 fits b (inl (n, e)) = absurd (omega arith)

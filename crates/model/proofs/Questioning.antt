@@ -1,6 +1,6 @@
 -- Many views in one call: one result, a list of single views, and the example.
 use Prim.Native.Nat.{ℕ, zero, suc, ◌+◌, ◌*◌}
-use mathlib.Core.Path.{◌≡◌, refl, sym, ◌∙◌}
+use mathlib.Core.Path.{◌≡◌, refl, sym, ◌∙◌, ap}
 use mathlib.Core.Bool.{Bool, true, ◌&&◌}
 use mathlib.Core.List.{List, [], ◌∷◌, ◌++◌, map}
 use mathlib.Core.Logic.{inl, inr}
@@ -15,8 +15,8 @@ use Rattle.model.specs.Bytes.{bit}
 use Rattle.model.specs.Graph.{count}
 use Rattle.model.specs.SchemeBytes.{policies, scheme_of, scheme_needs, Accepted}
 use Rattle.model.specs.Network.{Maps, Laid, held, Valid, pair_place, world}
-use Rattle.model.specs.Requests.{view, needs, those, answered, granted}
-use Rattle.model.specs.Calls.{open_needs, call_needs, Called}
+use Rattle.model.specs.Requests.{Turn, view, needs, those, answered, granted}
+use Rattle.model.specs.Calls.{open_needs, Called}
 use Rattle.model.specs.Questions.{Question, FilledIn, ViewsLeft}
 use Rattle.model.specs.Standard.{standard, standard_bytes}
 use Rattle.model.specs.Traces.{Trace, Happens, Matches}
@@ -29,6 +29,7 @@ use Rattle.model.proofs.Judging.{judged}
 use Rattle.model.proofs.Places.{pair_before}
 use Rattle.model.proofs.Tracing.{every_trace_from}
 use Rattle.model.proofs.StandardRead.{standard_accepted}
+use Rattle.model.proofs.Once.{called_once}
 
 -- ---- one result
 
@@ -38,7 +39,7 @@ same_question q r a b c d = λ i. record { viewer = a i; owner = b i; item = c i
 filled_once : (b net : List ℕ) (q x y : Question) → FilledIn b net q x → FilledIn b net q y → x ≡ y
 filled_once b net q x y f g =
     same_question x y (f.viewer ∙ sym g.viewer) (f.owner ∙ sym g.owner) (f.item ∙ sym g.item)
-    (answers_unique (call_needs b net (view q.viewer q.owner q.item)) x.answer y.answer f.viewed.answered g.viewed.answered)
+    (ap (λ (t : Turn). t.answer) (called_once b net _ _ net net f.viewed g.viewed refl).0)
 
 all_filled_once : (b net : List ℕ) (qs xs ys : List Question) → AllZip (FilledIn b net) qs xs → AllZip (FilledIn b net) qs ys → xs ≡ ys
 all_filled_once b net [] [] [] f g = refl

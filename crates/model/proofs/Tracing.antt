@@ -46,7 +46,7 @@ fits_set c s f u r x b = record {
     go m t true q h = rw (q refl).1 b
     go m t false q h = h
 
-side_small : (v u : ℕ) → side v u < 2
+pub side_small : (v u : ℕ) → side v u < 2
 side_small v u = go (ltb u v)
   where
     go : (t : Bool) → cond t 1 0 < 2
@@ -119,7 +119,7 @@ valid_start b net s a f = f
 start_laid : (b net : List ℕ) (s : Maps) → FromValid b net s → Laid (scheme_of b) s net
 start_laid b net s (w, e) = rw e (held_laid (scheme_of b) net w.sized)
 
-matches_runs : (c : Scheme) (s : Maps) (ts : Trace) → Matches c s ts → Runs c s (turns ts)
+pub matches_runs : (c : Scheme) (s : Maps) (ts : Trace) → Matches c s ts → Runs c s (turns ts)
 matches_runs c s [] m = tt
 matches_runs c s ((t, net) ∷ ts) (j, l, m) = (j, matches_runs c (after c s t) ts m)
 

@@ -20,15 +20,18 @@ choice_of m r (find v u) = []
 choice_of m r (list v u places) = []
 choice_of m r (view v u o) = []
 
--- the granted events of the pair i < j, in order
-abbrev pub moves : ℕ → ℕ → List Turn → List (ℕ × ℕ)
-moves i j [] = []
-moves i j (t ∷ ts) = granted t.answer (move_of i j t.request) [] ++ moves i j ts
+-- what f takes of each granted request, in order
+abbrev pub of_granted : {A : Type 0} → (Request → List A) → List Turn → List A
+of_granted f [] = []
+of_granted f (t ∷ ts) = granted t.answer (f t.request) [] ++ of_granted f ts
 
--- what was granted for member m and resource r, in order
+-- the granted events of the pair i < j
+abbrev pub moves : ℕ → ℕ → List Turn → List (ℕ × ℕ)
+moves i j ts = of_granted (move_of i j) ts
+
+-- what was granted for member m and resource r
 abbrev pub choices : ℕ → ℕ → List Turn → List ℕ
-choices m r [] = []
-choices m r (t ∷ ts) = granted t.answer (choice_of m r t.request) [] ++ choices m r ts
+choices m r ts = of_granted (choice_of m r) ts
 
 -- the automaton's run from state q
 abbrev pub run : Scheme → ℕ → List (ℕ × ℕ) → ℕ

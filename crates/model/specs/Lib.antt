@@ -36,3 +36,5 @@ pub mod SessionText
 -- worked examples
 pub mod Examples
 pub mod HiddenRecipe
+-- "Consent on record"
+pub mod Consent

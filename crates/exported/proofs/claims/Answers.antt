@@ -1,6 +1,7 @@
 -- The claims are theorems.
 use Rattle.model.specs.Claims.{FromFresh, FromValid}
 use Rattle.model.proofs.Tracing.{fresh_start, valid_start, traces_match, runs_replayed, view_granted, items_unseen}
+use Rattle.model.proofs.Consenting.{consent_on_record}
 use Rattle.exported.specs.Cite.{ExportedCall}
 use Rattle.exported.proofs.Sound.{sound}
 use Rattle.exported.proofs.claims.Goals as goal
@@ -15,4 +16,5 @@ returns c = record {
   runs_replayed_from = runs_replayed ExportedCall sound FromValid valid_start;
   view_granted_from = view_granted ExportedCall sound FromValid valid_start;
   items_unseen_from = items_unseen ExportedCall sound FromValid valid_start;
+  consent_on_record = consent_on_record ExportedCall sound;
 }
