@@ -12,7 +12,7 @@
  * - While a call runs, no other thread writes anything lent to it, or reads a network, an output, a count, a degree or
  *   questions that it may write: one thread at a time for each network. The library itself keeps nothing between calls.
  *
- * A call needs less than 24 kilobytes of stack, allocates nothing and calls nothing outside the library but memset, the one
+ * A call needs less than 20 kilobytes of stack, allocates nothing and calls nothing outside the library but memset, the one
  * symbol that the archive leaves undefined: given that, it links with -nostdlib. */
 #ifndef GATEKEEPER_H
 #define GATEKEEPER_H

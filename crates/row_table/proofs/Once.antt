@@ -1,14 +1,16 @@
 -- A graph has one friend row for each member, and one row of persons.
 use Prim.Native.Nat.{ℕ, ◌+◌, ◌*◌, ◌/◌, ◌%◌, ◌<◌}
-use mathlib.Core.Path.{◌≡◌, sym, ap, ◌∙◌}
+use mathlib.Core.Path.{◌≡◌, refl, sym, ap, ◌∙◌}
 use mathlib.Core.List.{List, []}
 use native.Mathlib.Decide.{dec_lt}
 use native.Mathlib.Omega.{arith}
-use lib.ListN.{get_or}
+use lib.ListN.{length, get_or, replicate, get_or-eq_default}
 use lib.Seq.{ext_get_or}
 use Rattle.model.specs.Bytes.{bit}
 use Rattle.model.specs.Graph.{Graph}
 use Rattle.model.proofs.Bits.{set_ext, below_no_bit}
+use Rattle.std.proofs.lemmas.List.{get_or-replicate, length-replicate}
+use Rattle.friend_flags.proofs.Friendships.{all_zero}
 use Rattle.sets.specs.Rows.{row_bit, FriendRow, PersonRow}
 use Rattle.sets.proofs.Words.{Words}
 use Rattle.row_table.specs.Filled.{RowsFilled}
@@ -34,13 +36,25 @@ friend_row_once g u a b v w f h = same_row a b v w (λ m l. f.bits m l ∙ sym (
 pub person_row_once : (g : Graph) (a b : List ℕ) → Words a → Words b → PersonRow g a → PersonRow g b → a ≡ b
 person_row_once g a b v w f h = same_row a b v w (λ m l. f.bits m l ∙ sym (h.bits m l))
 
+-- every row of a table is four words
+pub record AllWords (rows : List (List ℕ)) : Type 0 where
+  pub each : (m : ℕ) → m < length rows → Words (get_or rows m [])
+
+-- so is every row of a table of zeros
+pub zeros_words : AllWords (replicate 256 (replicate {A = ℕ} 4 0))
+zeros_words = record { each = λ m l. rw (get_or-replicate 256 m (replicate {A = ℕ} 4 0) [] (omega (arith, l, length-replicate 256 (replicate {A = ℕ} 4 0)))) (record { four = refl; fits = λ i. omega (arith, all_zero 4 i) }) }
+
 -- the table of all rows leaves no two results
-pub rows_filled_once : (g : Graph) (before after after' : List (List ℕ)) → ((m : ℕ) → Words (get_or after m [])) → ((m : ℕ) → Words (get_or after' m []))
+pub rows_filled_once : (g : Graph) (before after after' : List (List ℕ)) → AllWords after → AllWords after'
     → RowsFilled g before after
     → RowsFilled g before after'
     → (m : ℕ) → get_or after m [] ≡ get_or after' m []
-rows_filled_once g before after after' v w f h m = go (dec_lt m g.members)
+rows_filled_once g before after after' v w f h m = go (dec_lt m (length after)) (dec_lt m g.members)
   where
-    go : Dec (m < g.members) → get_or after m [] ≡ get_or after' m []
-    go (yes l) = friend_row_once g m (get_or after m []) (get_or after' m []) (v m) (w m) (f.each m l) (h.each m l)
-    go (no l) = f.kept m (omega arith) ∙ sym (h.kept m (omega arith))
+    same : length after ≡ length after'
+    same = f.long ∙ sym h.long
+
+    go : Dec (m < length after) → Dec (m < g.members) → get_or after m [] ≡ get_or after' m []
+    go (yes k) (yes l) = friend_row_once g m (get_or after m []) (get_or after' m []) (v.each m k) (w.each m (omega (arith, same))) (f.each m l) (h.each m l)
+    go (yes k) (no l) = f.kept m (omega arith) ∙ sym (h.kept m (omega arith))
+    go (no k) d = get_or-eq_default after [] (omega arith) ∙ sym (get_or-eq_default after' [] (omega (arith, same)))

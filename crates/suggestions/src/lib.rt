@@ -3,6 +3,7 @@
 #![tactic(auto)]
 
 ghost use Rattle.std.specs.Prelude.{◌<◌};
+ghost use Rattle.finding.specs.Everyone.{Everyone};
 ghost use Rattle.network.specs.Worlds.{members_in, world_in};
 ghost use Rattle.suggestions.specs.Ranks.{Sound, Ranked, RanksBelow};
 ghost use Rattle.suggestions.specs.Answered.{SuggestCalled};
@@ -57,16 +58,38 @@ impl Sources<'_> {
             ranks[m] = self.rank(found, m);
         }
     }
+
+    // Writes the ranks of all members, by a table of all rows.
+    fn write_ranks_by_table(&self, found: &[u16; 256], ranks: &mut [u32; 256])
+        requires { Sound self.now found.now × RanksBelow (world_in self.now.world) self.now.v 0 ranks.old }
+        ensures { RanksBelow (world_in self.now.world) self.now.v (members_in self.now.world) ranks.new }
+    {
+        let mut rows = [[0u64; 4]; 256];
+        row_table::fill_rows(&self.world, &mut rows);
+        Sources {
+            rows: Some(&rows),
+            ..*self
+        }
+        .write_ranks(found, ranks);
+    }
+}
+
+// Marks everyone whom v finds.
+fn mark_found(world: &World<'_>, v: usize, found: &mut [u16; 256])
+    requires { v < members_in world.now }
+    ensures { Everyone (world_in world.now) v found.new }
+{
+    checks::everyone(world, v, &mut Places::new(), found);
 }
 
 // Writes the ranks of all members for v, by the table of all rows where many are near. They are lent: an array handed back would be
-// copied.
+// copied. What is prepared for v and the table, 8 kilobytes each, stand in functions of their own, one after the other.
 fn write_ranks_for(world: &World<'_>, v: usize, ranks: &mut [u32; 256])
     requires { (v < members_in world.now) × RanksBelow (world_in world.now) v 0 ranks.old }
     ensures { RanksBelow (world_in world.now) v (members_in world.now) ranks.new }
 {
     let mut found = [0u16; 256];
-    checks::everyone(world, v, &mut Places::new(), &mut found);
+    mark_found(world, v, &mut found);
     let friends = rows::friend_row(world, v);
     let persons = rows::persons(world);
     let near = nearby::members(world, friends, persons);
@@ -80,15 +103,9 @@ fn write_ranks_for(world: &World<'_>, v: usize, ranks: &mut [u32; 256])
     };
     if sets::shared(near, near, near) <= 32 {
         sources.write_ranks(&found, ranks);
-        return;
+    } else {
+        sources.write_ranks_by_table(&found, ranks);
     }
-    let mut rows = [[0u64; 4]; 256];
-    row_table::fill_rows(world, &mut rows);
-    Sources {
-        rows: Some(&rows),
-        ..sources
-    }
-    .write_ranks(&found, ranks);
 }
 
 // Suggest: the first c of the members that v might know. A grant says how many it wrote.
